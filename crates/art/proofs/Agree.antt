@@ -1,0 +1,86 @@
+-- What the records show behaves as a sorted list and draws its tags, where every tag below agrees with every prefix byte, the unstored included, and with each child byte.
+use mathlib.Core.Path.{_≡_, refl, sym, ap, ap₂, _∙_}
+use mathlib.Core.List.{[], _∷_, _++_}
+use Prim.Native.Nat.{ℕ, suc}
+use mathlib.Core.Bool.{false}
+use lib.ListN.{length, take}
+use Rattle.art.specs.Tags.{Tag, Listing, Aim}
+use Rattle.art.proofs.Listings.{under-append, under-under, under-nil}
+use Rattle.art.specs.Listings.{Sorted, under, find}
+use Rattle.art.proofs.Trees.{sorted}
+use Rattle.art.specs.Trees.{Tree, leaf, inner, Row, end, child, contents, row-contents, Good, GoodRow, Above, count}
+use Rattle.art.proofs.Nodes.{walk-is-find}
+use Rattle.art.specs.Nodes.{Node, leaf-node, inner-node, NodeRow, end-node, child-node, show, show-row, walk}
+use Rattle.art.specs.Agree.{node-count, NodeAbove, Agrees, AgreesRow, node-contents, node-row-contents, node-erase, node-row-erase}
+use Rattle.art.proofs.Drawings.{erase-is-draw}
+use Rattle.art.specs.Drawings.{branch, kid, erase, erase-row, draw}
+
+module _ {A : Type 0} where
+  -- ── a node that agrees shows a tree ──
+  abbrev Shown : Node A → Tag → Type 0
+  Shown node p = (t : Tree A) × Good t × (show p t ≡ node)
+
+  abbrev ShownRow : NodeRow A → Tag → Type 0
+  ShownRow row q = (r : Row A) × GoodRow r × (show-row q r ≡ row)
+
+  seen-count : (q : Tag) (r : Row A) → node-count (show-row q r) ≡ count r
+  seen-count q end = refl
+  seen-count q (child b t r) = ap suc (seen-count q r)
+
+  seen-above : (q : Tag) (b : ℕ) (r : Row A) → NodeAbove b (show-row q r) → Above b r
+  seen-above q b end h = tt
+  seen-above q b (child c t r) h = (h .0, seen-above q b r (h .1))
+
+  mutual
+    -- a record where every tag below agrees shows a good tree
+    pub agrees-seen : (node : Node A) (p : Tag) → Agrees node p → Shown node p
+    agrees-seen (leaf-node n t a) p h = (leaf n (h .0) a, tt, ap (λ (x : Tag). leaf-node n x a) (sym (h .1)))
+    agrees-seen (inner-node k n len st r) p h =
+        let s = agrees-row-seen r (p ++ h .0) (h .4) in (
+          inner k n (h .0) (s .0),
+          (rw (← seen-count (p ++ h .0) (s .0)) (rw (s .2) (h .3)), s .1),
+          λ i. inner-node k n ((h .1) i) ((h .2) i) ((s .2) i),
+        )
+
+    -- and so for the row of a record
+    pub agrees-row-seen : (row : NodeRow A) (q : Tag) → AgreesRow row q → ShownRow row q
+    agrees-row-seen end-node q h = (end, tt, refl)
+    agrees-row-seen (child-node b t r) q h =
+        let u = agrees-seen t (q ++ b ∷ []) (h .0) in
+        let s = agrees-row-seen r q (h .2) in
+        (child b (u .0) (s .0), (u .1, seen-above q b (s .0) (rw (s .2) (h .1)), s .1), λ i. child-node b ((u .2) i) ((s .2) i))
+
+  mutual
+    show-contents : (t : Tree A) (p : Tag) → node-contents (show p t) ≡ under p (contents t)
+    show-contents (leaf n s a) p = refl
+    show-contents (inner k n run r) p = show-row-contents r (p ++ run) ∙ sym (under-under p run (row-contents r))
+
+    show-row-contents : (r : Row A) (q : Tag) → node-row-contents (show-row q r) ≡ under q (row-contents r)
+    show-row-contents end q = refl
+    show-row-contents (child b t r) q =
+        ap₂ (λ (l m : Listing A). l ++ m) (show-contents t (q ++ b ∷ []) ∙ sym (under-under q (b ∷ []) (contents t))) (show-row-contents r q) ∙ sym (under-append q (under (b ∷ []) (contents t)) (row-contents r))
+
+  mutual
+    show-erase : (t : Tree A) (p : Tag) → node-erase (show p t) ≡ erase p t
+    show-erase (leaf n s a) p = refl
+    show-erase (inner k n run r) p = ap (branch (length run) (take 8 run)) (show-row-erase r (p ++ run))
+
+    show-row-erase : (r : Row A) (q : Tag) → node-row-erase (show-row q r) ≡ erase-row q r
+    show-row-erase end q = refl
+    show-row-erase (child b t r) q = ap₂ (kid b) (show-erase t (q ++ b ∷ [])) (show-row-erase r q)
+
+  root-contents : (t : Tree A) → node-contents (show [] t) ≡ contents t
+  root-contents t = show-contents t [] ∙ under-nil (contents t)
+
+  -- ── the theorems on what the records show ──
+  -- the tags that such records show are sorted, and none begins another
+  pub theorem-S : (node : Node A) → Agrees node [] → Sorted (node-contents node)
+  theorem-S node h = let s = agrees-seen node [] h in rw (← s .2) (rw (root-contents (s .0)) (sorted (s .0) (s .1)))
+
+  -- the walk over such records finds what the listing of them holds
+  pub theorem-L : (node : Node A) → Agrees node [] → (m : Aim) (s : Tag) → walk node m 0 false s ≡ find m s (node-contents node)
+  theorem-L node h m s = let t = agrees-seen node [] h in rw (← t .2) (rw (root-contents (t .0)) (walk-is-find (t .0) (t .1) m s))
+
+  -- such records draw what the tags alone draw
+  pub theorem-D : (node : Node A) → Agrees node [] → node-erase node ≡ draw (node-contents node)
+  theorem-D node h = let t = agrees-seen node [] h in rw (← t .2) (rw (root-contents (t .0)) (show-erase (t .0) [] ∙ erase-is-draw (t .0) (t .1)))

@@ -1,0 +1,50 @@
+-- The rule of 01 on what the records show: every tag below agrees with every prefix byte, the unstored included, and with each child byte.
+use mathlib.Core.Path.{_≡_}
+use mathlib.Core.List.{[], _∷_, _++_}
+use Prim.Native.Nat.{ℕ, suc, _≤_, _<_}
+use lib.ListN.{length, take}
+use Rattle.art.specs.Tags.{Tag, Listing, Begins}
+use Rattle.art.specs.Nodes.{Node, leaf-node, inner-node, NodeRow, end-node, child-node}
+use Rattle.art.specs.Drawings.{Drawing, one, branch, Kids, done, kid}
+
+module _ {A : Type 0} where
+  -- how many children
+  abbrev pub node-count : NodeRow A → ℕ
+  node-count end-node = 0
+  node-count (child-node b t r) = suc (node-count r)
+
+  -- every byte of the row is above b
+  abbrev pub NodeAbove : ℕ → NodeRow A → Type 0
+  NodeAbove b end-node = Unit {0}
+  NodeAbove b (child-node c t r) = (b < c) × NodeAbove b r
+
+  -- below the path p: a leaf's tag begins with it; a record has a run of its length, with its stored bytes first, two children or more, and a row that agrees below path and run
+  abbrev mutual
+    pub Agrees : Node A → Tag → Type 0
+    Agrees (leaf-node n t a) p = Begins p t
+    Agrees (inner-node k n len st r) p = (run : Tag) × (length run ≡ len) × (take 8 run ≡ st) × (2 ≤ node-count r) × AgreesRow r (p ++ run)
+
+    -- each child agrees below the path and its byte, and the bytes ascend
+    pub AgreesRow : NodeRow A → Tag → Type 0
+    AgreesRow end-node q = Unit {0}
+    AgreesRow (child-node b t r) q = Agrees t (q ++ b ∷ []) × NodeAbove b r × AgreesRow r q
+
+  -- the leaves in order, with their whole tags
+  abbrev mutual
+    pub node-contents : Node A → Listing A
+    node-contents (leaf-node n t a) = (t, a) ∷ []
+    node-contents (inner-node k n len st r) = node-row-contents r
+
+    pub node-row-contents : NodeRow A → Listing A
+    node-row-contents end-node = []
+    node-row-contents (child-node b t r) = node-contents t ++ node-row-contents r
+
+  -- what the records draw
+  abbrev mutual
+    pub node-erase : Node A → Drawing A
+    node-erase (leaf-node n t a) = one t a
+    node-erase (inner-node k n len st r) = branch len st (node-row-erase r)
+
+    pub node-row-erase : NodeRow A → Kids A
+    node-row-erase end-node = done
+    node-row-erase (child-node b t r) = kid b (node-erase t) (node-row-erase r)

@@ -1,0 +1,38 @@
+-- Listings: what is true of all entries, sorted ones, a listing put under a path.
+use mathlib.Core.Logic.{ite}
+use mathlib.Core.Option.{Option, none, some}
+use mathlib.Core.List.{[], _∷_, _++_}
+use Prim.Native.Nat.{ℕ}
+use lib.ListN.{drop}
+use Rattle.art.specs.Tags.{Tag, Listing, Before, Aim, exact, fits-dec}
+
+module _ {A : Type 0} where
+  -- every entry's tag
+  abbrev pub Every : (Tag → Type 0) → Listing A → Type 0
+  Every P [] = Unit {0}
+  Every P (e ∷ l) = P (e .0) × Every P l
+
+  -- each tag comes before all later ones, and begins none of them
+  abbrev pub Sorted : Listing A → Type 0
+  Sorted [] = Unit {0}
+  Sorted (e ∷ l) = Every (Before (e .0)) l × Sorted l
+
+  -- the listing with p before each tag
+  abbrev pub under : Tag → Listing A → Listing A
+  under p [] = []
+  under p (e ∷ l) = (p ++ e .0, e .1) ∷ under p l
+
+  -- the listing with the first n bytes of each tag left off
+  abbrev pub strip : ℕ → Listing A → Listing A
+  strip n [] = []
+  strip n (e ∷ l) = (drop n (e .0), e .1) ∷ strip n l
+
+  -- ── the first held tag that fits ──
+  -- in the listing's order
+  abbrev pub find : Aim → Tag → Listing A → Option A
+  find m s [] = none
+  find m s (e ∷ l) = ite (fits-dec m s (e .0)) (some (e .1)) (find m s l)
+
+  -- what is held for a tag
+  abbrev pub lookup : Tag → Listing A → Option A
+  lookup s l = find exact s l

@@ -1,0 +1,6 @@
+pub mod Scans
+pub mod Tests
+pub mod Compares
+pub mod Parts
+pub mod Edits
+pub mod Built

@@ -1,0 +1,190 @@
+-- The laws that a loop over one slice goes by. Each record is the invariant of a loop at i: what the definition says of the whole list,
+-- said of what is left of it. It is a record so that a law finds the list and the index by itself.
+use Prim.Native.Nat.{ℕ, zero, suc, _+_, _-_, _≤_, _<_}
+use mathlib.Core.Path.{_≡_, refl, sym, ap, _∙_}
+use mathlib.Core.List.{List, [], _∷_, _++_}
+use mathlib.Core.Bool.{Bool, true, false, _&&_}
+use native.Mathlib.Numerals.{add-one}
+use native.Mathlib.Omega.{arith}
+use lib.ListN.{length, getD, take, drop, drop-of-length-le}
+use lib.Seq.{drop-cons, take-suc, take-length, length-take-le}
+use lib.Dec.{leb}
+use Rattle.lists.specs.Scan.{choose, all, first, past, onward, nth, count, rises}
+
+-- what is left at i, its front element first
+pub step : (s : List ℕ) (i : ℕ) → i < length s → drop i s ≡ getD s i 0 ∷ drop (i + 1) s
+step s i h = rw add-one (drop-cons s i 0 h)
+
+-- what stands before i, its last element last
+pub step-back : (s : List ℕ) (i : ℕ) → 0 < i → i ≤ length s → take i s ≡ take (i - 1) s ++ (getD s (i - 1) 0 ∷ [])
+step-back s i z h = ap (λ (n : ℕ). take n s) (let q : i ≡ suc (i - 1) = omega arith in q) ∙ take-suc s (i - 1) 0 (omega arith)
+
+-- the form of a definition by `elim`, so that a test in it can be named
+abbrev pub pick : Bool → ℕ → ℕ → ℕ
+pick b m n = elim b [ true ↦ m | false ↦ n ]
+
+-- every element passes
+pub record All (p : ℕ → Bool) (s : List ℕ) (i : ℕ) : Type 0 where
+  pub within : i ≤ length s
+  pub left : all p s ≡ all p (drop i s)
+
+pub all-start : {p : ℕ → Bool} {s : List ℕ} → All p s 0
+all-start = record { within = omega arith; left = refl }
+
+module _ {p : ℕ → Bool} {s : List ℕ} {i : ℕ} (r : All p s i) where
+  pub all-on : p (getD s i 0) ≡ true → i < length s → All p s (i + 1)
+  all-on t h = record { within = omega arith; left = r .left ∙ ap (all p) (step s i h) ∙ ap (λ (b : Bool). b && all p (drop (i + 1) s)) t }
+
+  pub all-off : p (getD s i 0) ≡ false → i < length s → false ≡ all p s
+  all-off t h = sym (r .left ∙ ap (all p) (step s i h) ∙ ap (λ (b : Bool). b && all p (drop (i + 1) s)) t)
+
+  pub all-end : length s ≤ i → true ≡ all p s
+  all-end h = sym (r .left ∙ ap (all p) (drop-of-length-le s h))
+
+-- the first that passes
+pub record First (p : ℕ → Bool) (s : List ℕ) (i : ℕ) : Type 0 where
+  pub within : i ≤ length s
+  pub left : first p s ≡ i + first p (drop i s)
+
+pub first-start : {p : ℕ → Bool} {s : List ℕ} → First p s 0
+first-start = record { within = omega arith; left = omega arith }
+
+module _ {p : ℕ → Bool} {s : List ℕ} {i : ℕ} (r : First p s i) where
+  pub first-on : p (getD s i 0) ≡ false → i < length s → First p s (i + 1)
+  first-on t h =
+      let q : first p (drop i s) ≡ suc (first p (drop (i + 1) s)) = ap (first p) (step s i h) ∙ ap (λ (b : Bool). pick b 0 (suc (first p (drop (i + 1) s)))) t in
+      record { within = omega arith; left = omega arith }
+
+  pub first-at : p (getD s i 0) ≡ true → i < length s → i ≡ first p s
+  first-at t h =
+      let q : first p (drop i s) ≡ 0 = ap (first p) (step s i h) ∙ ap (λ (b : Bool). pick b 0 (suc (first p (drop (i + 1) s)))) t in
+      omega arith
+
+  pub first-end : length s ≤ i → i ≡ first p s
+  first-end h =
+      let q : first p (drop i s) ≡ 0 = ap (first p) (drop-of-length-le s h) in
+      omega arith
+
+-- how many pass: n of those before i
+pub record Count (p : ℕ → Bool) (s : List ℕ) (i n : ℕ) : Type 0 where
+  pub within : i ≤ length s
+  pub few : n ≤ i
+  pub left : count p s ≡ n + count p (drop i s)
+
+pub count-start : {p : ℕ → Bool} {s : List ℕ} → Count p s 0 0
+count-start = record { within = omega arith; few = omega arith; left = omega arith }
+
+module _ {p : ℕ → Bool} {s : List ℕ} {i n : ℕ} (r : Count p s i n) where
+  pub count-on : p (getD s i 0) ≡ true → i < length s → Count p s (i + 1) (n + 1)
+  count-on t h =
+      let q : count p (drop i s) ≡ suc (count p (drop (i + 1) s)) = ap (count p) (step s i h) ∙ ap (λ (b : Bool). pick b (suc (count p (drop (i + 1) s))) (count p (drop (i + 1) s))) t in
+      record { within = omega arith; few = omega arith; left = omega arith }
+
+  pub count-off : p (getD s i 0) ≡ false → i < length s → Count p s (i + 1) n
+  count-off t h =
+      let q : count p (drop i s) ≡ count p (drop (i + 1) s) = ap (count p) (step s i h) ∙ ap (λ (b : Bool). pick b (suc (count p (drop (i + 1) s))) (count p (drop (i + 1) s))) t in
+      record { within = omega arith; few = omega arith; left = omega arith }
+
+  pub count-end : length s ≤ i → n ≡ count p s
+  count-end h =
+      let q : count p (drop i s) ≡ 0 = ap (count p) (drop-of-length-le s h) in
+      omega arith
+
+-- ascending bytes: those from i on ascend from b
+pub record Rises (lo : ℕ) (s : List ℕ) (i b : ℕ) : Type 0 where
+  pub within : i ≤ length s
+  pub small : b ≤ 256
+  pub left : rises lo s ≡ rises b (drop i s)
+
+pub rises-start : {lo : ℕ} {s : List ℕ} → lo ≤ 256 → Rises lo s 0 lo
+rises-start h = record { within = omega arith; small = h; left = refl }
+
+module _ {lo : ℕ} {s : List ℕ} {i b : ℕ} (r : Rises lo s i b) where
+  pub rises-on : leb b (getD s i 0) ≡ true → leb (getD s i 0) 255 ≡ true → getD s i 0 ≤ 255 → i < length s → Rises lo s (i + 1) (getD s i 0 + 1)
+  rises-on t u k h =
+      let rest = rises (getD s i 0 + 1) (drop (i + 1) s) in
+      record { within = omega arith; small = omega arith; left = r .left ∙ ap (rises b) (step s i h) ∙ ap (λ (a : Bool). a && (leb (getD s i 0) 255 && rest)) t ∙ ap (λ (a : Bool). a && rest) u }
+
+  pub rises-low : leb b (getD s i 0) ≡ false → i < length s → false ≡ rises lo s
+  rises-low t h =
+      let rest = rises (getD s i 0 + 1) (drop (i + 1) s) in
+      sym (r .left ∙ ap (rises b) (step s i h) ∙ ap (λ (a : Bool). a && (leb (getD s i 0) 255 && rest)) t)
+
+  pub rises-high : leb b (getD s i 0) ≡ true → leb (getD s i 0) 255 ≡ false → i < length s → false ≡ rises lo s
+  rises-high t u h =
+      let rest = rises (getD s i 0 + 1) (drop (i + 1) s) in
+      sym (r .left ∙ ap (rises b) (step s i h) ∙ ap (λ (a : Bool). a && (leb (getD s i 0) 255 && rest)) t ∙ ap (λ (a : Bool). a && rest) u)
+
+  pub rises-end : length s ≤ i → true ≡ rises lo s
+  rises-end h = sym (r .left ∙ ap (rises b) (drop-of-length-le s h))
+
+-- the place after the last that passes: none from i on does
+pub record Past (p : ℕ → Bool) (s : List ℕ) (i : ℕ) : Type 0 where
+  pub within : i ≤ length s
+  pub left : past p s ≡ past p (take i s)
+
+pub past-start : {p : ℕ → Bool} {s : List ℕ} → Past p s (length s)
+past-start {p} {s} = record { within = omega arith; left = ap (past p) (sym (take-length s)) }
+
+module _ (p : ℕ → Bool) (x : ℕ) where
+  pub past-last : p x ≡ true → (l : List ℕ) → past p (l ++ (x ∷ [])) ≡ suc (length l)
+  past-last t [] = ap (λ (b : Bool). choose {A = ℕ} b 1 0) t
+  past-last t (y ∷ ys) = ap (onward (choose (p y) 1 0)) (past-last t ys)
+
+  pub past-but-last : p x ≡ false → (l : List ℕ) → past p (l ++ (x ∷ [])) ≡ past p l
+  past-but-last t [] = ap (λ (b : Bool). choose {A = ℕ} b 1 0) t
+  past-but-last t (y ∷ ys) = ap (onward (choose (p y) 1 0)) (past-but-last t ys)
+
+module _ {p : ℕ → Bool} {s : List ℕ} {i : ℕ} (r : Past p s i) where
+  pub past-on : p (getD s (i - 1) 0) ≡ false → 0 < i → Past p s (i - 1)
+  past-on t h = record { within = omega arith; left = r .left ∙ ap (past p) (step-back s i h (r .within)) ∙ past-but-last p (getD s (i - 1) 0) t (take (i - 1) s) }
+
+  pub past-at : p (getD s (i - 1) 0) ≡ true → 0 < i → i ≡ past p s
+  past-at t h =
+      let q : length (take (i - 1) s) ≡ i - 1 = length-take-le (i - 1) s (omega arith) in
+      omega (arith, r .left ∙ ap (past p) (step-back s i h (r .within)) ∙ past-last p (getD s (i - 1) 0) t (take (i - 1) s))
+
+  pub past-end : i ≤ 0 → 0 ≡ past p s
+  past-end h = sym (r .left ∙ ap (λ (n : ℕ). past p (take n s)) (let q : i ≡ 0 = omega arith in q))
+
+-- the place of the one that passes after n others: from i on it comes after m others
+pub record Nth (p : ℕ → Bool) (n : ℕ) (s : List ℕ) (i m : ℕ) : Type 0 where
+  pub within : i ≤ length s
+  pub left : nth p n s ≡ i + nth p m (drop i s)
+
+pub nth-start : {p : ℕ → Bool} {n : ℕ} {s : List ℕ} → Nth p n s 0 n
+nth-start = record { within = omega arith; left = omega arith }
+
+module _ (p : ℕ → Bool) (x : ℕ) (xs : List ℕ) where
+  pub nth-skips : (m : ℕ) → p x ≡ false → nth p m (x ∷ xs) ≡ suc (nth p m xs)
+  nth-skips zero t = ap (λ (b : Bool). pick b 0 (suc (nth p zero xs))) t
+  nth-skips (suc m) t = ap (λ (b : Bool). pick b (suc (nth p m xs)) (suc (nth p (suc m) xs))) t
+
+  pub nth-counts : (m : ℕ) → p x ≡ true → nth p (suc m) (x ∷ xs) ≡ suc (nth p m xs)
+  nth-counts m t = ap (λ (b : Bool). pick b (suc (nth p m xs)) (suc (nth p (suc m) xs))) t
+
+  pub nth-here : p x ≡ true → nth p 0 (x ∷ xs) ≡ 0
+  nth-here t = ap (λ (b : Bool). pick b 0 (suc (nth p zero xs))) t
+
+module _ {p : ℕ → Bool} {n : ℕ} {s : List ℕ} {i m : ℕ} (r : Nth p n s i m) where
+  pub nth-on : p (getD s i 0) ≡ true → 0 < m → i < length s → Nth p n s (i + 1) (m - 1)
+  nth-on t z h =
+      let q : m ≡ suc (m - 1) = omega arith in
+      let e : nth p m (drop i s) ≡ suc (nth p (m - 1) (drop (i + 1) s)) =
+      ap (nth p m) (step s i h) ∙ ap (λ (k : ℕ). nth p k (getD s i 0 ∷ drop (i + 1) s)) q ∙ nth-counts p (getD s i 0) (drop (i + 1) s) (m - 1) t in
+      record { within = omega arith; left = omega arith }
+
+  pub nth-off : p (getD s i 0) ≡ false → i < length s → Nth p n s (i + 1) m
+  nth-off t h =
+      let e : nth p m (drop i s) ≡ suc (nth p m (drop (i + 1) s)) = ap (nth p m) (step s i h) ∙ nth-skips p (getD s i 0) (drop (i + 1) s) m t in
+      record { within = omega arith; left = omega arith }
+
+  pub nth-at : p (getD s i 0) ≡ true → m ≡ 0 → i < length s → i ≡ nth p n s
+  nth-at t z h =
+      let e : nth p m (drop i s) ≡ 0 = ap (λ (k : ℕ). nth p k (drop i s)) z ∙ ap (nth p 0) (step s i h) ∙ nth-here p (getD s i 0) (drop (i + 1) s) t in
+      omega arith
+
+  pub nth-end : length s ≤ i → i ≡ nth p n s
+  nth-end h =
+      let q : nth p m (drop i s) ≡ 0 = ap (nth p m) (drop-of-length-le s h) in
+      omega arith

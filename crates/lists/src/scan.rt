@@ -1,0 +1,140 @@
+// Tests of every element, the first or last place that passes, and counts.
+ghost use mathlib.Core.Path.{_≡_};
+ghost use Rattle.lists.specs.Scan.{is, atMost, atLeast, nonzero, all, first, past, nth, count, rises};
+
+// Each word is at most `b`.
+pub fn all_at_most(s: &[u32], b: u32) -> bool
+    ensures { λ r. ⌜ r ≡ all (atMost b) (now (s .entry)) ⌝ }
+{
+    let mut i = 0;
+    while i < s.len() {
+        if s[i] > b {
+            return false;
+        }
+        i += 1;
+    }
+    true
+}
+
+// Each byte is 0.
+pub fn bytes_zero(s: &[u8]) -> bool
+    ensures { λ r. ⌜ r ≡ all (atMost 0) (now (s .entry)) ⌝ }
+{
+    let mut i = 0;
+    while i < s.len() {
+        if s[i] > 0 {
+            return false;
+        }
+        i += 1;
+    }
+    true
+}
+
+// No word is 0.
+pub fn none_zero(s: &[u32]) -> bool
+    ensures { λ r. ⌜ r ≡ all nonzero (now (s .entry)) ⌝ }
+{
+    let mut i = 0;
+    while i < s.len() {
+        if s[i] <= 0 {
+            return false;
+        }
+        i += 1;
+    }
+    true
+}
+
+// Strictly ascending bytes, one a word.
+pub fn rising(s: &[u32]) -> bool
+    ensures { λ r. ⌜ r ≡ rises 0 (now (s .entry)) ⌝ }
+{
+    let mut i = 0;
+    let mut lo: u32 = 0;
+    while i < s.len() {
+        let x = s[i];
+        if x < lo {
+            return false;
+        }
+        if x > 255 {
+            return false;
+        }
+        lo = x + 1;
+        i += 1;
+    }
+    true
+}
+
+// The place of the first word that is `x`, or the length.
+pub fn first_equal(s: &[u32], x: u32) -> usize
+    ensures { λ r. ⌜ r ≡ first (is x) (now (s .entry)) ⌝ }
+{
+    let mut i = 0;
+    while i < s.len() {
+        if s[i] == x {
+            return i;
+        }
+        i += 1;
+    }
+    i
+}
+
+// The place of the first word that is `x` or more, or the length.
+pub fn first_at_least(s: &[u32], x: u32) -> usize
+    ensures { λ r. ⌜ r ≡ first (atLeast x) (now (s .entry)) ⌝ }
+{
+    let mut i = 0;
+    while i < s.len() {
+        if x <= s[i] {
+            return i;
+        }
+        i += 1;
+    }
+    i
+}
+
+// The place after the last word that is not 0; 0 where each is 0.
+pub fn past_nonzero(s: &[u32]) -> usize
+    ensures { λ r. ⌜ r ≡ past nonzero (now (s .entry)) ⌝ }
+{
+    let mut i = s.len();
+    while 0 < i {
+        if 0 < s[i - 1] {
+            return i;
+        }
+        i -= 1;
+    }
+    0
+}
+
+// The place of the word that is not 0 with `n` such words before it, or the length.
+pub fn nth_nonzero(s: &[u32], n: usize) -> usize
+    ensures { λ r. ⌜ r ≡ nth nonzero n (now (s .entry)) ⌝ }
+{
+    let mut i = 0;
+    let mut left = n;
+    while i < s.len() {
+        if 0 < s[i] {
+            if left == 0 {
+                return i;
+            }
+            left -= 1;
+        }
+        i += 1;
+    }
+    i
+}
+
+// How many words are not 0.
+pub fn count_nonzero(s: &[u32]) -> usize
+    ensures { λ r. ⌜ r ≡ count nonzero (now (s .entry)) ⌝ }
+{
+    let mut i = 0;
+    let mut n: usize = 0;
+    while i < s.len() {
+        if 0 < s[i] {
+            n += 1;
+        }
+        i += 1;
+    }
+    n
+}
