@@ -34,6 +34,7 @@ stay k n l = (k, n)
 
 module _ {A : Type 0} where
   -- ── a change of what is held ──
+  -- a change that leaves no tag out loses no tree whole
   pub alter-whole : (g : A → A) (t : Tree A) (u : Tag) → lost (λ a. some (g a)) t u ≡ false
   alter-whole g (leaf n rest v) u = go (tag-dec u rest)
     where
@@ -74,6 +75,7 @@ module _ {A : Type 0} where
     home-inner hm hm′ k n run r u (part c x i y j e e′ ne) rec rec′ h = refl
 
     mutual
+      -- and makes the same tree whatever homes are offered
       pub any-home : (t : Tree A) (hm hm′ : Home) (u : Tag) → prune t to hm u ≡ prune t to hm′ u
       any-home (leaf n rest v) hm hm′ u = refl
       any-home (inner k n run r) hm hm′ u = home-inner hm hm′ k n run r u (meet u run) (λ x v. prune-row r to hm x v) (λ x v. prune-row r to hm′ x v) (λ x v. any-row-home r hm hm′ x v)

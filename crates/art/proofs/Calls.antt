@@ -86,6 +86,7 @@ module _ {A : Type 0} where
       go (fork up y w d c) h room i = place (fork up y w d c) room h ∙ ap (λ (w : Verdict). root-of (insert-tree w hm t s a g room)) (some-inj i)
       go broken h room i = let z : _≡_ {A = ℕ} 0 1 = cc in absurd (omega arith)
 
+  -- and the root that the call says is that directory's
   pub call-moves : (f : ℕ) (o : Option (Tree A)) → Sane o → OnceOf o → Low o f → (hm : Home) (c : Call A) → call-root f (store-of o) hm (root-of o) c ≡ root-of (step hm o c)
   call-moves f none g o l hm (insert s a h none) = refl
   call-moves f none g o l hm (insert s a h (some pl)) = refl

@@ -65,17 +65,21 @@ module _ {A : Type 0} where
   settle-root hm k n run (child b t (child c u r)) = ap (λ (l : ℕ). new-home hm k n (suc (suc l))) (count-refs r)
 
   -- ── at the child for a byte ──
+  -- whether the child for a byte is lost whole, said of the child itself
   pub lost-kid : (f : A → Option A) (r : Row A) (x : ℕ) (u : Tag) → lost-row f r x u ≡ at-kid false (λ c t. lost f t u) x r
   lost-kid f end x u = refl
   lost-kid f (child c t r) x u = ap (ite (ℕ-discrete x c) (lost f t u)) (lost-kid f r x u)
 
+  -- the writes to a row are those to the child for the byte
   pub drops-kid : (f : A → Option A) (hm : Home) (r : Row A) (q : Tag) (x : ℕ) (u : Tag) → lean-drops-row r f hm q x u ≡ at-kid [] (λ c t. lean-drops t f hm (q ++ c ∷ []) u) x r
   drops-kid f hm end q x u = refl
   drops-kid f hm (child c t r) q x u = ap (ite (ℕ-discrete x c) (lean-drops t f hm (q ++ c ∷ []) u)) (drops-kid f hm r q x u)
 
+  -- the place of the child for a byte in a pruned row is that of the pruned child
   pub prune-spot : (f : A → Option A) (hm : Home) (r : Row A) (x : ℕ) (u : Tag) → spot x (prune-row r f hm x u) ≡ at-kid (leaf-place 0) (λ c t. root (prune t f hm u)) x r
   prune-spot f hm r x u = ap (spot x) (prune-swap r f hm x u) ∙ spot-swap (λ t. prune t f hm u) x r
 
+  -- a leaf keeps its place when what it holds changes
   pub re-leaf-root : {P : Type 0} (n : ℕ) (rest : Tag) (a : A) (o : Option A) (d : Dec P) → root (ite d (re-leaf n rest a o) (leaf n rest a)) ≡ leaf-place n
   re-leaf-root n rest a none (yes e) = refl
   re-leaf-root n rest a (some b) (yes e) = refl

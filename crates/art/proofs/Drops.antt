@@ -36,6 +36,7 @@ module _ {A : Type 0} where
       go (inl e) = e
       go (inr e) = absurd (used-not (τ q) u e)
 
+  -- a lost leaf cut out of a row is one place written free, which was used
   pub cut-store : (f : A → Option A) (r : Row A) (x : ℕ) (u q : Tag) → lost-row f r x u ≡ true → OnceRow r q
       → (store-row (cut-row x r) q ≡ write (store-row r q) (spot x r) unused) × Used (store-row r q (spot x r))
   cut-store f end x u q h o = false-true h
@@ -139,6 +140,7 @@ module _ {A : Type 0} where
           sym (given r′ i o ((new-home hm k n (count r′), inner-cell (length run) (take 8 run) (refs r′)) ∷ []))
 
   -- ── a record on the way ──
+  -- a home that is free or the record's own stays so beside one written place
   pub roomy-single : (hm : Home) (σ : Store A) (x : Place) (c : Cell A) → Roomy hm (write σ x c) → Roomy hm (write empty x c)
   roomy-single hm σ x c f k n l = go (f k n l)
     where
@@ -211,6 +213,7 @@ module _ {A : Type 0} where
   }
   leaf-done n rest a q hm p s (no e) = record { made = refl; clear = λ τ d m. tt; once = tt }
 
+  -- a home that is free in a join is free in its first part
   pub roomy-left : (hm : Home) (σ τ : Store A) → Roomy hm (join σ τ) → Roomy hm σ
   roomy-left hm σ τ f k n l = go (f k n l)
     where
@@ -218,6 +221,7 @@ module _ {A : Type 0} where
       go (inl e) = inl e
       go (inr e) = inr ((or-parts (σ (new-home hm k n l)) (τ (new-home hm k n l)) e) .0)
 
+  -- and in its second
   pub roomy-right : (hm : Home) (σ τ : Store A) → Roomy hm (join σ τ) → Roomy hm τ
   roomy-right hm σ τ f k n l = go (f k n l)
     where
@@ -225,6 +229,7 @@ module _ {A : Type 0} where
       go (inl e) = inl e
       go (inr e) = inr ((or-parts (σ (new-home hm k n l)) (τ (new-home hm k n l)) e) .1)
 
+  -- a home that is free after a write of a used cell was free before
   pub roomy-under : (hm : Home) (σ : Store A) (x : Place) (c : Cell A) → Used c → Roomy hm (write σ x c) → Roomy hm σ
   roomy-under hm σ x c u f k n l = go (f k n l)
     where

@@ -54,6 +54,7 @@ module _ {A : Type 0} where
   point-judges f σ t g h l s = reach-verdict (seek-reaches f f σ t g [] s s refl h l l top top) ∙ ap some (judge-is t g s)
 
   -- ── the writes ──
+  -- where the child keeps its place, the record above is not written
   pub relink-up-none : (σ : Store A) (up : Up) (y : Place) → relink-up σ up y y ≡ []
   relink-up-none σ top y = refl
   relink-up-none σ (via k n b) y = relink-none (inner-place k n) (σ (inner-place k n)) b y

@@ -62,6 +62,7 @@ module _ {A : Type 0} where
         (edits-row-clear r pl (p ++ run) x u a (write empty here old) (o .1) (disjoint-sym (write empty here old) ρ (single-disjoint ρ here old (o .0))) (fresh-single pl ρ here old f)) ∙ h .0)
         (λ x u. grow-refs r pl x u a)
 
+    -- and so for a row
     pub lean-row-same : (r : Row A) (pl : Plan) (q : Tag) (x : ℕ) (u : Tag) (a : A) → OnceRow r q → Fresh pl (store-row r q) → (σ : Store A) → ShowsRow r q σ → apply σ (lean-row r pl q x u a) ≡ apply σ (edits-row r pl q x u a)
     lean-row-same end pl q x u a o f σ h = refl
     lean-row-same (child c t r) pl q x u a o f σ h =
@@ -74,6 +75,7 @@ module _ {A : Type 0} where
   lean-grow t pl p s a o f = lean-same t pl p s a o f (store t p) (store-shows t p o) ∙ sym (store-grow t pl p s a o f)
 
   -- ── delete, or a change to what is held ──
+  -- a row without one of its children is still shown
   pub cut-shows : (x : ℕ) (r : Row A) (q : Tag) (σ : Store A) → ShowsRow r q σ → ShowsRow (cut-row x r) q σ
   cut-shows x end q σ h = tt
   cut-shows x (child c t r) q σ h = go (ℕ-discrete x c) (cut-shows x r q σ (h .1))
@@ -134,6 +136,7 @@ module _ {A : Type 0} where
         ((drops-row-done r f hm (p ++ run) x u (o .1) (roomy-under hm ρ here old tt w)) .clear (write empty here old) (disjoint-sym (write empty here old) ρ (single-disjoint ρ here old (o .0))) (roomy-single hm ρ here old w)) ∙ h .0)
         (λ x u. prune-refs r f hm x u) (o .1) (h .1)
 
+    -- and so for a row
     pub lean-drops-row-same : (r : Row A) (f : A → Option A) (hm : Home) (q : Tag) (x : ℕ) (u : Tag) → OnceRow r q → Roomy hm (store-row r q) → (σ : Store A) → ShowsRow r q σ
         → apply σ (lean-drops-row r f hm q x u) ≡ apply σ (drops-row r f hm q x u)
     lean-drops-row-same end f hm q x u o w σ h = refl

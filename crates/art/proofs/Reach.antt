@@ -39,12 +39,15 @@ pub next-byte : (p run : Tag) (x : ℕ) (w s : Tag) → s ≡ p ++ (run ++ x ∷
 next-byte p run x w s e = rw e (getD-append-add p (run ++ x ∷ w) (length run) 0 ∙ getD-append-seam run x w 0)
 
 -- ── tags that do not meet as the same differ ──
+-- a tag that the rest goes on past is not the rest
 pub short-differs : (s t : Tag) (y : ℕ) (v : Tag) → t ≡ s ++ y ∷ v → s ≢ t
 short-differs s t y v e i = omega (arith, ap length (i ∙ e), length-append s (y ∷ v))
 
+-- nor is one that goes on past the rest
 pub long-differs : (s t : Tag) (x : ℕ) (u : Tag) → s ≡ t ++ x ∷ u → s ≢ t
 long-differs s t x u e i = short-differs t s x u e (sym i)
 
+-- nor one that parts from it
 pub part-differs : (s t c : Tag) (x : ℕ) (u : Tag) (y : ℕ) (v : Tag) → s ≡ c ++ x ∷ u → t ≡ c ++ y ∷ v → x ≢ y → s ≢ t
 part-differs s t c x u y v e e′ ne i = ne (head-eq-of-cons-eq (append-cancel-left c (x ∷ u) (y ∷ v) (sym e ∙ i ∙ e′)))
 

@@ -9,7 +9,7 @@ use borrow.Author.Tests.{eqb-true, eqb-false, eq-eqb, ne-eqb, lt-ltb, le-ltb}
 use lib.ListN.{length, getD, take, drop, length-take, drop-of-length-le}
 use lib.Seq.{getD-take}
 use lib.Dec.{eqb, ltb, eqb·zero-suc, eqb·suc-suc}
-use Rattle.lists.specs.Compare.{shared, same, less}
+use Rattle.lists.specs.Compare.{shared, same, begins, less}
 use Rattle.lists.proofs.Scans.{step, pick}
 use Rattle.lists.proofs.Tests.{both, and-both}
 
@@ -150,6 +150,29 @@ same-shared (x ∷ xs) (y ∷ ys) = go (eqb x y) (same-shared xs ys)
         → b && same xs ys ≡ eqb (pick b (suc (shared xs ys)) 0) (suc (length xs)) && eqb (pick b (suc (shared xs ys)) 0) (suc (length ys))
     go true ih = rw (eqb·suc-suc (shared xs ys) (length xs), eqb·suc-suc (shared xs ys) (length ys)) ih
     go false ih = ap (λ (b : Bool). b && eqb 0 (suc (length ys))) (sym (eqb·zero-suc (length xs)))
+
+-- the left begins the right exactly where they share its whole length
+pub begins-shared : (s t : List ℕ) → begins s t ≡ eqb (shared s t) (length s)
+begins-shared [] t = refl
+begins-shared (x ∷ xs) [] = sym (eqb·zero-suc (length xs))
+begins-shared (x ∷ xs) (y ∷ ys) = go (eqb x y) (begins-shared xs ys)
+  where
+    go : (b : Bool) → begins xs ys ≡ eqb (shared xs ys) (length xs) → b && begins xs ys ≡ eqb (pick b (suc (shared xs ys)) 0) (suc (length xs))
+    go true ih = rw (eqb·suc-suc (shared xs ys) (length xs)) ih
+    go false ih = sym (eqb·zero-suc (length xs))
+
+-- and so the right goes on from it, and back
+pub begins-rest : (s t : List ℕ) → begins s t ≡ true → (z : List ℕ) × (t ≡ s ++ z)
+begins-rest [] t e = (t, refl)
+begins-rest (x ∷ xs) [] e = absurd (false≢true e)
+begins-rest (x ∷ xs) (y ∷ ys) e =
+    let b = both (eqb x y) (begins xs ys) e in
+    let r = begins-rest xs ys (b .1) in
+    (r .0, λ i. sym (eqb-true x y (b .0)) i ∷ (r .1) i)
+
+pub rest-begins : (s z : List ℕ) → begins s (s ++ z) ≡ true
+rest-begins [] z = refl
+rest-begins (x ∷ xs) z = and-both (eq-eqb x x refl) (rest-begins xs z)
 
 pub same-eq : (s t : List ℕ) → same s t ≡ true → s ≡ t
 same-eq [] [] e = refl

@@ -17,6 +17,12 @@ same [] (y ∷ ys) = false
 same (x ∷ xs) [] = false
 same (x ∷ xs) (y ∷ ys) = eqb x y && same xs ys
 
+-- the left begins the right
+abbrev pub begins : List ℕ → List ℕ → Bool
+begins [] ys = true
+begins (x ∷ xs) [] = false
+begins (x ∷ xs) (y ∷ ys) = eqb x y && begins xs ys
+
 -- unsigned byte order: at the first difference the left has the lower byte, or the left ends first
 abbrev pub less : List ℕ → List ℕ → Bool
 less xs [] = false

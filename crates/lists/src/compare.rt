@@ -1,6 +1,6 @@
 // Two runs of bytes beside each other: how far they agree, whether they are the same, which comes first.
 ghost use mathlib.Core.Path.{_≡_};
-ghost use Rattle.lists.specs.Compare.{shared, same, less};
+ghost use Rattle.lists.specs.Compare.{shared, same, begins, less};
 
 // The length of the longest beginning that both have.
 pub fn shared_bytes(s: &[u8], t: &[u8]) -> usize
@@ -48,6 +48,14 @@ pub fn same_bytes(s: &[u8], t: &[u8]) -> bool
 {
     let n = shared_bytes(s, t);
     (n == s.len()) & (n == t.len())
+}
+
+// `s` begins `t`.
+pub fn begins_bytes(s: &[u8], t: &[u8]) -> bool
+    ensures { λ r. ⌜ r ≡ begins (now (s .entry)) (now (t .entry)) ⌝ }
+{
+    let n = shared_bytes(s, t);
+    n == s.len()
 }
 
 // `s` comes before `t` in unsigned byte order, where a run comes after those that begin it.
