@@ -4,3 +4,5 @@ pub mod Compares
 pub mod Parts
 pub mod Edits
 pub mod Built
+pub mod Alike
+pub mod Tables

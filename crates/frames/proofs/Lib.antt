@@ -1,0 +1,4 @@
+pub mod KindTable
+pub mod FormTable
+pub mod Frames
+pub mod Places

@@ -1,0 +1,57 @@
+-- The forms: how long an inner record's head is, where its prefix is stored, and the longest tag.
+use Prim.Native.Nat.{ℕ, _+_, _-_, _≤_}
+use mathlib.Core.List.{List, [], _∷_}
+use mathlib.Core.Bool.{Bool, _&&_}
+use lib.ListN.{length, getD}
+use lib.Dec.{leb}
+use Rattle.frames.specs.Kind.{bodyWords}
+use Rattle.frames.specs.declared.form.Form.{Form}
+use Rattle.frames.specs.declared.form.Sizes.{Sizes}
+
+-- number, words of the stored prefix, words of the count below, longest tag
+abbrev pub forms : List Form
+forms = record { number = 1; prefix = 8; counts = 0; limit = 64 } ∷ []
+
+abbrev pub noForm : Form
+noForm = record { number = 0; prefix = 0; counts = 0; limit = 0 }
+
+unfoldable pub formKnown : ℕ → Bool
+formKnown number = leb 1 number && leb number (length forms)
+
+unfoldable pub formOf : ℕ → Form
+formOf number = getD forms (number - 1) noForm
+
+-- kind, child count and length; the count below; the stored prefix
+abbrev pub header : Form → ℕ
+header form = 3 + form .counts + form .prefix
+
+abbrev pub recordWords : Form → ℕ → ℕ
+recordWords form kind = header form + bodyWords kind
+
+-- by pool, leaves the fifth
+abbrev pub sizesOf : Form → Sizes
+sizesOf form = record { z1 = recordWords form 1; z2 = recordWords form 2; z3 = recordWords form 3; z4 = recordWords form 4; z5 = 6 }
+
+pub record SmallSizes (z : Sizes) : Type 0 where
+  pub s1 : z .z1 ≤ 512
+  pub s2 : z .z2 ≤ 512
+  pub s3 : z .z3 ≤ 512
+  pub s4 : z .z4 ≤ 512
+  pub s5 : z .z5 ≤ 512
+
+-- eight words from a on
+abbrev pub eightFrom : List ℕ → ℕ → List ℕ
+eightFrom rec a =
+    getD rec a 0
+    ∷ getD rec (a + 1) 0
+    ∷ getD rec (a + 2) 0
+    ∷ getD rec (a + 3) 0
+    ∷ getD rec (a + 4) 0
+    ∷ getD rec (a + 5) 0
+    ∷ getD rec (a + 6) 0
+    ∷ getD rec (a + 7) 0
+    ∷ []
+
+-- the eight stored prefix bytes, one a word, after the count below
+unfoldable pub storedOf : Form → List ℕ → List ℕ
+storedOf form rec = eightFrom rec (3 + form .counts)

@@ -1,0 +1,114 @@
+-- The frame: the trailer, the capacities, and where each pool begins.
+use Prim.Native.Nat.{ℕ, _+_, _-_, _*_, _≤_}
+use mathlib.Core.Path.{_≡_}
+use mathlib.Core.List.{List, [], _∷_}
+use mathlib.Core.Bool.{Bool, true, _&&_}
+use lib.ListN.{length, getD}
+use lib.Dec.{eqb, leb}
+use Rattle.lists.specs.Part.{between}
+use Rattle.frames.specs.Form.{formOf, formKnown, sizesOf, SmallSizes}
+use Rattle.frames.specs.declared.form.Form.{Form}
+use Rattle.frames.specs.declared.form.Sizes.{Sizes}
+use Rattle.frames.specs.declared.frame.Caps.{Caps}
+use Rattle.frames.specs.declared.frame.Backs.{Backs}
+use Rattle.frames.specs.declared.frame.Frame.{Frame}
+
+-- a trailer's five capacities
+abbrev pub capsOf : List ℕ → Caps
+capsOf t = record { c1 = getD t 6 0; c2 = getD t 7 0; c3 = getD t 8 0; c4 = getD t 9 0; c5 = getD t 10 0 }
+
+abbrev pub capsSmall : Caps → Bool
+capsSmall c = leb (c .c1) 4096 && leb (c .c2) 4096 && leb (c .c3) 4096 && leb (c .c4) 4096 && leb (c .c5) 4096
+
+pub record SmallCaps (c : Caps) : Type 0 where
+  pub s1 : c .c1 ≤ 4096
+  pub s2 : c .c2 ≤ 4096
+  pub s3 : c .c3 ≤ 4096
+  pub s4 : c .c4 ≤ 4096
+  pub s5 : c .c5 ≤ 4096
+
+-- the distances back to each pool that they give
+abbrev pub backsOf : Sizes → Caps → Backs
+backsOf z c =
+    record {
+      b1 = c .c1 * z .z1 + (c .c2 * z .z2 + (c .c3 * z .z3 + (c .c4 * z .z4 + c .c5 * z .z5)));
+      b2 = c .c2 * z .z2 + (c .c3 * z .z3 + (c .c4 * z .z4 + c .c5 * z .z5));
+      b3 = c .c3 * z .z3 + (c .c4 * z .z4 + c .c5 * z .z5);
+      b4 = c .c4 * z .z4 + c .c5 * z .z5;
+      b5 = c .c5 * z .z5;
+    }
+
+abbrev pub backsMatch : List ℕ → Backs → Bool
+backsMatch t b =
+    eqb (getD t 1 0) (b .b1) && eqb (getD t 2 0) (b .b2) && eqb (getD t 3 0) (b .b3) && eqb (getD t 4 0) (b .b4) && eqb (getD t 5 0) (b .b5)
+
+-- the trailer t of n words fits them and k key bytes
+unfoldable pub formFits : Form → List ℕ → Caps → ℕ → ℕ → Bool
+formFits form t c n k =
+    backsMatch t (backsOf (sizesOf form) c)
+    && eqb (getD t 15 0) (backsOf (sizesOf form) c .b1 + 16)
+    && eqb n (getD t 15 0)
+    && eqb k (c .c5 * form .limit)
+
+unfoldable pub trailerFits : List ℕ → ℕ → ℕ → Bool
+trailerFits t n k = (formKnown (getD t 0 0) && capsSmall (capsOf t)) && formFits (formOf (getD t 0 0)) t (capsOf t) n k
+
+-- the last 16 words
+abbrev pub trailerOf : List ℕ → List ℕ
+trailerOf words = between words (length words - 16) (length words)
+
+-- 16 words or more, and the trailer fits
+unfoldable pub frameFits : List ℕ → List ℕ → Bool
+frameFits words keys = leb 16 (length words) && trailerFits (trailerOf words) (length words) (length keys)
+
+-- by the kind of a reference (0 none, 1 to 4, 5 leaves, 6 and 7 none): the capacity, a record's words and the pool's first word
+abbrev pub capsList : Caps → List ℕ
+capsList c = 0 ∷ c .c1 ∷ c .c2 ∷ c .c3 ∷ c .c4 ∷ c .c5 ∷ 0 ∷ 0 ∷ []
+
+abbrev pub sizesList : Sizes → List ℕ
+sizesList z = 0 ∷ z .z1 ∷ z .z2 ∷ z .z3 ∷ z .z4 ∷ z .z5 ∷ 0 ∷ 0 ∷ []
+
+abbrev pub startsList : Sizes → Caps → List ℕ
+startsList z c =
+    0
+    ∷ 0
+    ∷ (c .c1 * z .z1)
+    ∷ (c .c1 * z .z1 + c .c2 * z .z2)
+    ∷ (c .c1 * z .z1 + c .c2 * z .z2 + c .c3 * z .z3)
+    ∷ (c .c1 * z .z1 + c .c2 * z .z2 + c .c3 * z .z3 + c .c4 * z .z4)
+    ∷ 0
+    ∷ 0
+    ∷ []
+
+abbrev pub frameWith : Form → Sizes → Caps → Frame
+frameWith form z c = record { form = form; sizes = sizesList z; caps = capsList c; starts = startsList z c }
+
+unfoldable pub frameOf : List ℕ → Frame
+frameOf t = frameWith (formOf (getD t 0 0)) (sizesOf (formOf (getD t 0 0))) (capsOf t)
+
+-- a frame of small sizes and capacities, whatever the words are now
+pub record Framed (f : Frame) : Type 0 where
+  pub form : Form
+  pub sizes : Sizes
+  pub caps : Caps
+  pub made : f ≡ frameWith form sizes caps
+  pub small-sizes : SmallSizes sizes
+  pub small-caps : SmallCaps caps
+
+-- what the trailer says beside the frame
+abbrev pub rootWord : List ℕ → ℕ
+rootWord words = getD (trailerOf words) 11 0
+
+abbrev pub firstWord : List ℕ → ℕ
+firstWord words = getD (trailerOf words) 12 0
+
+abbrev pub lastWord : List ℕ → ℕ
+lastWord words = getD (trailerOf words) 13 0
+
+abbrev pub countWord : List ℕ → ℕ
+countWord words = getD (trailerOf words) 14 0
+
+-- a frame that was read from words that it fits
+pub record FrameOf (f : Frame) (words keys : List ℕ) : Type 0 where
+  pub read : f ≡ frameOf (trailerOf words)
+  pub fits : frameFits words keys ≡ true

@@ -1,0 +1,4 @@
+pub mod Kind
+pub mod Form
+pub mod Frame
+pub mod Place

@@ -1,0 +1,69 @@
+-- The row of a record's children: their bytes ascending, each with its reference.
+use Prim.Native.Nat.{ℕ, zero, suc, _+_}
+use mathlib.Core.List.{List, [], _∷_}
+use mathlib.Core.Bool.{true, false}
+use lib.ListN.{getD}
+use lib.Dec.{eqb, leb}
+use Rattle.lists.specs.Scan.{choose}
+use Rattle.lists.specs.Part.{between}
+use Rattle.frames.specs.Kind.{childrenOf}
+use Rattle.records.specs.Own.{byslot, bodyPart}
+use Rattle.frames.specs.declared.form.Form.{Form}
+use Rattle.records.specs.declared.representation.Entry.{Entry}
+use Rattle.records.specs.declared.representation.Entry.the-variants.{Child, Nothing}
+
+-- keys beside their references
+abbrev pub beside : List ℕ → List ℕ → List (ℕ × ℕ)
+beside [] rs = []
+beside (k ∷ ks) [] = []
+beside (k ∷ ks) (r ∷ rs) = (k, r) ∷ beside ks rs
+
+-- the places that are not 0, the first of them for byte b
+abbrev pub filled : ℕ → List ℕ → List (ℕ × ℕ)
+filled b [] = []
+filled b (r ∷ rs) = elim (eqb r 0) [ true ↦ filled (suc b) rs | false ↦ (b, r) ∷ filled (suc b) rs ]
+
+-- for each slot number the reference that it names
+abbrev pub spread : List ℕ → List ℕ → List ℕ
+spread refs [] = []
+spread refs (s ∷ ss) = byslot refs s ∷ spread refs ss
+
+-- kinds 1 and 2 with k places, n used; kind 3; kind 4
+abbrev pub sortedRow : ℕ → List ℕ → ℕ → List (ℕ × ℕ)
+sortedRow k body n = beside (between body 0 n) (between body k (k + n))
+
+abbrev pub indirectRow : List ℕ → List (ℕ × ℕ)
+indirectRow body = filled 0 (spread (between body 256 304) (between body 0 256))
+
+abbrev pub directRow : List ℕ → List (ℕ × ℕ)
+directRow body = filled 0 body
+
+unfoldable pub bodyRow : ℕ → List ℕ → ℕ → List (ℕ × ℕ)
+bodyRow kind body n = choose (leb kind 2) (sortedRow (childrenOf kind) body n) (choose (eqb kind 3) (indirectRow body) (directRow body))
+
+-- the row of a record
+abbrev pub rowAt : Form → ℕ → List ℕ → List (ℕ × ℕ)
+rowAt form kind rec = bodyRow kind (bodyPart form kind rec) (getD rec 1 0)
+
+-- ── one child of a row: the n-th, the first at or after a byte, the last ──
+abbrev pub entry : ℕ × ℕ → Entry
+entry e = Child (e .0) (e .1)
+
+abbrev pub entryAt : ℕ → List (ℕ × ℕ) → Entry
+entryAt n [] = Nothing
+entryAt zero (e ∷ es) = entry e
+entryAt (suc n) (e ∷ es) = entryAt n es
+
+abbrev pub entryFrom : ℕ → List (ℕ × ℕ) → Entry
+entryFrom b [] = Nothing
+entryFrom b (e ∷ es) = elim (leb b (e .0)) [ true ↦ entry e | false ↦ entryFrom b es ]
+
+abbrev pub lastEntry : List (ℕ × ℕ) → Entry
+lastEntry [] = Nothing
+lastEntry (e ∷ []) = entry e
+lastEntry (e ∷ f ∷ es) = lastEntry (f ∷ es)
+
+-- the reference for a byte, 0 where there is none
+abbrev pub refFor : ℕ → List (ℕ × ℕ) → ℕ
+refFor b [] = 0
+refFor b (e ∷ es) = elim (eqb (e .0) b) [ true ↦ e .1 | false ↦ refFor b es ]
