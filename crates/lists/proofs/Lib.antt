@@ -6,3 +6,4 @@ pub mod Edits
 pub mod Built
 pub mod Alike
 pub mod Tables
+pub mod Pieces

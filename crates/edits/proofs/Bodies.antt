@@ -1,0 +1,130 @@
+-- Every kind: a body that holds a row holds the changed row after a change; its spread is the table of its row; and a row that climbs has
+-- a body that holds it.
+use Prim.Native.Nat.{ℕ, _+_, _-_, _≤_, _<_}
+use mathlib.Core.Path.{_≡_, refl, sym, ap, subst, _∙_}
+use mathlib.Core.List.{List}
+use mathlib.Core.Bool.{Bool}
+use native.Mathlib.Omega.{arith}
+use lib.ListN.{length, getD, set}
+use lib.Dec.{eqb, leb}
+use Rattle.lists.specs.Scan.{choose, nonzero, count}
+use Rattle.lists.specs.Part.{between}
+use Rattle.lists.proofs.Tests.{count-le}
+use Rattle.lists.proofs.Parts.{between-length}
+use Rattle.frames.specs.Kind.{kindRow, childrenOf}
+use Rattle.records.specs.Own.{sortedChild, indirectChild, childOf}
+use Rattle.records.specs.Row.{sortedRow, directRow, refFor}
+use Rattle.records.proofs.Rows.{spread-length}
+use Rattle.records.proofs.RowRules.{Climbs, filled-climbs, filled-length}
+use Rattle.edits.specs.Body.{sortedAdd, sortedRemove, sortedReplace, slotAdd, slotRemove, slotReplace, bodyAdd, bodyRemove, bodyReplace, rowSpread, sortedSpread, slotSpread, bodySpread, sortedBody, slotBody, bodyOf}
+use Rattle.edits.specs.Rows.{Row, rowInsert, rowRemove, rowReplace}
+use Rattle.edits.proofs.Shown.{Laid, by-layout, Holds, holds-laid, laid, holds-size, holds-climbs, holds-child}
+use Rattle.edits.proofs.SortedBodies.{sorted-built, sorted-add, sorted-remove, sorted-replace}
+use Rattle.edits.proofs.TableBodies.{tab-length, direct-shown, direct-built, direct-add, direct-remove, direct-replace, spread-row}
+use Rattle.edits.proofs.SlotBodies.{indirect-built, indirect-add, indirect-remove, indirect-replace}
+
+-- by the two tests of the kind
+abbrev by : {A : Type 0} → Bool → Bool → A → A → A → A
+by t u x y z = choose t x (choose u y z)
+
+module _ {kind : ℕ} {body : List ℕ} {n : ℕ} {row : Row} (h : Holds kind body n row) where
+  size : length row ≡ n
+  size = holds-size h
+
+  climbs : Climbs 0 row
+  climbs = holds-climbs h
+
+  child : (b : ℕ) → b < 256 → by (leb kind 2) (eqb kind 3) (sortedChild (childrenOf kind) body n b) (indirectChild body b) (getD body b 0) ≡ refFor b row
+  unfolding childOf
+  child b l = holds-child h b l
+
+  pub holds-add : (b r : ℕ) → n < childrenOf kind → b < 256 → refFor b row ≡ 0 → 0 < r → Holds kind (bodyAdd kind body n b r) (n + 1) (rowInsert b r row)
+  unfolding bodyAdd
+  holds-add b r room low z some =
+      holds-laid kind (bodyAdd kind body n b r) (n + 1) (rowInsert b r row) (h .fits .low) (h .fits .high) (omega arith)
+      (by-layout
+      (λ t u words k. Laid t u words k body n row → by t u (sortedChild k body n b) (indirectChild body b) (getD body b 0) ≡ refFor b row → n < k
+      → Laid t u words k (by t u (sortedAdd k body n b r) (slotAdd body b r) (set body b r)) (n + 1) (rowInsert b r row))
+      (λ k s e l. sorted-add k body n row s (omega arith) size climbs b r l z low some)
+      (λ s e l. indirect-add body n row s (omega arith) b low e r l z some)
+      (λ s e l. direct-add body n row s size climbs b low e r z some)
+      kind (h .fits .low) (h .fits .high) (laid h) (child b low) room)
+
+  pub holds-remove : (b : ℕ) → b < 256 → 0 < refFor b row → Holds kind (bodyRemove kind body n b) (n - 1) (rowRemove b row)
+  unfolding bodyRemove
+  holds-remove b low some =
+      holds-laid kind (bodyRemove kind body n b) (n - 1) (rowRemove b row) (h .fits .low) (h .fits .high) (omega (arith, h .fits .few))
+      (by-layout
+      (λ t u words k. Laid t u words k body n row → by t u (sortedChild k body n b) (indirectChild body b) (getD body b 0) ≡ refFor b row → n ≤ k
+      → Laid t u words k (by t u (sortedRemove k body n b) (slotRemove body b) (set body b 0)) (n - 1) (rowRemove b row))
+      (λ k s e l. sorted-remove k body n row s l size climbs b some)
+      (λ s e l. indirect-remove body n row s l b low e some)
+      (λ s e l. direct-remove body n row s size climbs b low e some)
+      kind (h .fits .low) (h .fits .high) (laid h) (child b low) (h .fits .few))
+
+  pub holds-replace : (b r : ℕ) → b < 256 → 0 < refFor b row → 0 < r → Holds kind (bodyReplace kind body n b r) n (rowReplace b r row)
+  unfolding bodyReplace
+  holds-replace b r low some new =
+      holds-laid kind (bodyReplace kind body n b r) n (rowReplace b r row) (h .fits .low) (h .fits .high) (h .fits .few)
+      (by-layout
+      (λ t u words k. Laid t u words k body n row → by t u (sortedChild k body n b) (indirectChild body b) (getD body b 0) ≡ refFor b row → n ≤ k
+      → Laid t u words k (by t u (sortedReplace k body n b r) (slotReplace body b r) (set body b r)) n (rowReplace b r row))
+      (λ k s e l. sorted-replace k body n row s l size climbs b r some new)
+      (λ s e l. indirect-replace body n row s l b low e r some new)
+      (λ s e l. direct-replace body n row s size climbs b low e r some new)
+      kind (h .fits .low) (h .fits .high) (laid h) (child b low) (h .fits .few))
+
+  -- the references by their bytes: a table with the same row
+  table : (length (bodySpread kind body n) ≡ 256) × (directRow (bodySpread kind body n) ≡ row)
+  unfolding bodySpread sortedSpread slotSpread
+  table =
+      by-layout
+      (λ t u words k. Laid t u words k body n row
+      → (length (by t u (sortedSpread k body n) (slotSpread body) body) ≡ 256) × (directRow (by t u (sortedSpread k body n) (slotSpread body) body) ≡ row))
+      (λ k s. (
+        tab-length 256 0 (λ b. refFor b (sortedRow k body n)),
+        ap (λ (l : Row). directRow (rowSpread l)) (s .shows) ∙ spread-row row climbs,
+      ))
+      (λ s. (spread-length (between body 256 304) (between body 0 256) ∙ between-length body 0 256 (omega arith) (omega (arith, s .long)), s .shows))
+      (λ s. (s .long, s .shows))
+      kind (h .fits .low) (h .fits .high) (laid h)
+
+  pub spread-length-is : length (bodySpread kind body n) ≡ 256
+  spread-length-is = table .0
+
+  pub spread-shows : directRow (bodySpread kind body n) ≡ row
+  spread-shows = table .1
+
+  pub spread-count : count nonzero (bodySpread kind body n) ≡ n
+  spread-count = sym (filled-length 0 (bodySpread kind body n)) ∙ ap length spread-shows ∙ size
+
+  -- it is a body of kind 4
+  pub spread-holds : Holds 4 (bodySpread kind body n) n row
+  unfolding kindRow
+  spread-holds =
+      holds-laid 4 (bodySpread kind body n) n row (omega arith) (omega arith) (omega (arith, count-le nonzero (bodySpread kind body n), spread-count, spread-length-is))
+      (direct-shown (bodySpread kind body n) n row spread-length-is spread-shows size)
+
+  pub spread-at-byte : (b : ℕ) → b < 256 → getD (bodySpread kind body n) b 0 ≡ refFor b row
+  unfolding childOf
+  spread-at-byte b l = holds-child spread-holds b l
+
+-- the body built from a row
+pub holds-built : (kind : ℕ) (row : Row) → 1 ≤ kind → kind ≤ 4 → length row ≤ childrenOf kind → Climbs 0 row → Holds kind (bodyOf kind row) (length row) row
+unfolding bodyOf
+holds-built kind row low high few c =
+    holds-laid kind (bodyOf kind row) (length row) row low high few
+    (by-layout
+    (λ t u words k. length row ≤ k → Laid t u words k (by t u (sortedBody k row) (slotBody row) (rowSpread row)) (length row) row)
+    (λ k l. sorted-built k row (length row) refl l c)
+    (λ l. indirect-built row l c)
+    (λ l. direct-built row c)
+    kind low high few)
+
+-- the body built from a table
+pub holds-table : (kind : ℕ) (places : List ℕ) (n : ℕ) → 1 ≤ kind → kind ≤ 4 → length places ≡ 256 → count nonzero places ≡ n → n ≤ childrenOf kind
+    → Holds kind (bodyOf kind (directRow places)) n (directRow places)
+holds-table kind places n low high long many few =
+    let s : length (directRow places) ≡ n = filled-length 0 places ∙ many in
+    subst (λ (m : ℕ). Holds kind (bodyOf kind (directRow places)) m (directRow places)) s
+    (holds-built kind (directRow places) low high (omega arith) (filled-climbs 0 places (omega arith)))

@@ -1,0 +1,322 @@
+-- An inner record that obeys its rule, with its prefix and its row: what each change of a record makes of the two, and the cell it shows.
+use Prim.Native.Nat.{ℕ, zero, suc, _+_, _-_, _≤_, _<_}
+use mathlib.Core.Path.{_≡_, refl, sym, ap, ap₂, subst, _∙_}
+use mathlib.Core.List.{List, [], _++_, append-nil}
+use mathlib.Core.Bool.{Bool, true}
+use native.Mathlib.Omega.{arith}
+use lib.ListN.{length, getD, set, replicate, length-set, length-append, length-replicate, List·getD-append}
+use lib.Seq.{ext-getD, getD-set-same, getD-set-other, set-getD}
+use borrow.Author.Tests.{eq-eqb, ne-eqb, le-leb}
+use Rattle.lists.specs.Scan.{choose, atMost, all, nonzero, count}
+use Rattle.lists.specs.Part.{between}
+use Rattle.lists.proofs.Tests.{and-both}
+use Rattle.lists.proofs.Parts.{between-length, between-at, between-left, between-middle, between-set-before, splice-length, splice-same, splice-before, splice-after, splice-at-before}
+use Rattle.prefix.specs.Run.{capped, held}
+use Rattle.prefix.specs.declared.Prefix.{Prefix}
+use Rattle.frames.specs.Kind.{childrenOf, bodyWords}
+use Rattle.frames.specs.Form.{header, recordWords, storedOf}
+use Rattle.records.specs.Own.{prefixAt, headOk, bodyOk, bodyPart, innerOk, childAt, InnerFits}
+use Rattle.records.specs.Row.{bodyRow, rowAt, refFor, directRow}
+use Rattle.records.specs.View.{Held, places, innerCell}
+use Rattle.frames.specs.declared.form.Form.{Form}
+use Rattle.records.proofs.Owns.{InnerRule, inner-rule, body-fits}
+use Rattle.records.proofs.RowRules.{Climbs}
+use Rattle.art.specs.Stores.{Cell, unused, inner-cell}
+use Rattle.edits.specs.Head.{setPrefix, setHead}
+use Rattle.edits.specs.Body.{bodyAdd, bodyRemove, bodyReplace, bodyOf}
+use Rattle.edits.specs.Record.{withBody, addOf, removeOf, replaceOf, spreadOf, buildRec}
+use Rattle.edits.specs.Rows.{Row, rowInsert, rowRemove, rowReplace}
+use Rattle.edits.proofs.Shown.{Holds, holds-size, holds-climbs, holds-child}
+use Rattle.edits.proofs.Bodies.{holds-add, holds-remove, holds-replace, holds-built, spread-length-is, spread-shows, spread-count}
+
+-- the cell of this length, prefix and row
+abbrev shown : ℕ → Prefix → Row → Cell Held
+shown n p row = inner-cell n (held p) (places row)
+
+-- a prefix that a record of this form can have
+pub record PrefixFits (form : Form) (p : Prefix) : Type 0 where
+  pub short : p .full .0 ≤ form .limit
+  pub eight : length (p .stored) ≡ 8
+  pub bytes : all (atMost 255) (p .stored) ≡ true
+  pub rest : all (atMost 0) (between (p .stored) (capped (p .full .0)) 8) ≡ true
+
+-- a record that obeys its rule, and has this prefix and row
+pub record Inner (form : Form) (kind : ℕ) (rec : List ℕ) (p : Prefix) (row : Row) : Type 0 where
+  pub fits : InnerFits form kind rec
+  pub prefix : prefixAt form rec ≡ p
+  pub shows : rowAt form kind rec ≡ row
+
+-- one that obeys its rule has its own prefix and row
+pub inner-own : {form : Form} {kind : ℕ} {rec : List ℕ} → InnerFits form kind rec → Inner form kind rec (prefixAt form rec) (rowAt form kind rec)
+inner-own w = record { fits = w; prefix = refl; shows = refl }
+
+-- ---- what it says of the record's words
+module _ {form : Form} {kind : ℕ} {rec : List ℕ} {p : Prefix} {row : Row} (i : Inner form kind rec p row) where
+  rule : InnerRule form kind rec
+  rule = inner-rule form kind rec (i .fits .ok)
+
+  pub inner-holds : Holds kind (bodyPart form kind rec) (getD rec 1 0) row
+  inner-holds = record { fits = body-fits (i .fits); shows = i .shows }
+
+  pub inner-kind : getD rec 0 0 ≡ kind
+  inner-kind = rule .head .kind-word
+
+  pub inner-size : length row ≡ getD rec 1 0
+  inner-size = holds-size inner-holds
+
+  pub inner-two : 2 ≤ length row
+  inner-two = omega (arith, rule .head .two, inner-size)
+
+  pub inner-full : getD rec 2 0 ≡ p .full .0
+  unfolding prefixAt
+  inner-full = ap (λ (q : Prefix). q .full .0) (i .prefix)
+
+  pub inner-climbs : Climbs 0 row
+  inner-climbs = holds-climbs inner-holds
+
+  pub inner-child : (b : ℕ) → b < 256 → childAt form kind rec b ≡ refFor b row
+  unfolding childAt
+  inner-child b h = holds-child inner-holds b h
+
+  pub inner-fits : PrefixFits form p
+  unfolding prefixAt storedOf
+  inner-fits =
+      subst (PrefixFits form) (i .prefix) (record { short = rule .head .short; eight = refl; bytes = rule .head .bytes; rest = rule .head .rest })
+
+  -- the cell
+  pub inner-shows : innerCell form kind rec ≡ inner-cell (p .full .0) (held p) (places row)
+  inner-shows =
+      ap (λ (t : Bool). choose t unused (shown (getD rec 2 0) (prefixAt form rec) (rowAt form kind rec))) (ne-eqb (getD rec 0 0) 0 (λ z. omega (arith, inner-kind, i .fits .low)))
+      ∙ ap₂ (λ (q : Prefix) (l : Row). shown (getD rec 2 0) q l) (i .prefix) (i .shows)
+      ∙ ap (λ (n : ℕ). shown n p row) inner-full
+
+  -- its references by their bytes
+  pub spread-of : (length (spreadOf form kind rec) ≡ 256) × (directRow (spreadOf form kind rec) ≡ row) × (count nonzero (spreadOf form kind rec) ≡ length row)
+  unfolding spreadOf
+  spread-of = (spread-length-is inner-holds, spread-shows inner-holds, spread-count inner-holds ∙ sym inner-size)
+
+-- ---- a record from its head and its body
+pub record Head (form : Form) (rec : List ℕ) (kind n : ℕ) (p : Prefix) : Type 0 where
+  pub first : getD rec 0 0 ≡ kind
+  pub second : getD rec 1 0 ≡ n
+  pub prefix : prefixAt form rec ≡ p
+
+inner-made : (form : Form) (kind : ℕ) (rec : List ℕ) (n : ℕ) (p : Prefix) (body : List ℕ) (row : Row) → length rec ≡ recordWords form kind → Head form rec kind n p → PrefixFits form p
+    → 2 ≤ n → bodyPart form kind rec ≡ body → Holds kind body n row → Inner form kind rec p row
+unfolding innerOk headOk prefixAt
+inner-made form kind rec n p body row long h f two e s =
+    let full : getD rec 2 0 ≡ p .full .0 = ap (λ (q : Prefix). q .full .0) (h .prefix) in
+    let stored : storedOf form rec ≡ p .stored = ap (λ (q : Prefix). q .stored) (h .prefix) in
+    let head : headOk form kind rec ≡ true =
+    and-both (and-both (and-both (and-both
+    (eq-eqb (getD rec 0 0) kind (h .first))
+    (le-leb 2 (getD rec 1 0) (omega (arith, h .second))))
+    (le-leb (getD rec 2 0) (form .limit) (omega (arith, f .short))))
+    (ap (all (atMost 255)) stored ∙ f .bytes))
+    (ap₂ (λ (l : List ℕ) (m : ℕ). all (atMost 0) (between l (capped m) 8)) stored full ∙ f .rest) in
+    let ok : innerOk form kind rec ≡ true =
+    and-both (le-leb (getD rec 1 0) (childrenOf kind) (omega (arith, h .second, s .fits .few))) (and-both head (ap₂ (bodyOk kind) e (h .second) ∙ s .fits .ok)) in
+    record {
+      fits = record { low = s .fits .low; high = s .fits .high; long = long; ok = ok };
+      prefix = h .prefix;
+      shows = ap₂ (bodyRow kind) e (h .second) ∙ s .shows;
+    }
+
+-- the stored bytes are a part of the record
+stored-part : (form : Form) (rec : List ℕ) → 3 + form .counts + 8 ≤ length rec → storedOf form rec ≡ between rec (3 + form .counts) (3 + form .counts + 8)
+unfolding storedOf
+stored-part form rec h =
+    let a = 3 + form .counts in
+    let n : length (between rec a (a + 8)) ≡ 8 = between-length rec a (a + 8) (omega arith) h ∙ omega arith in
+    ext-getD 0 (storedOf form rec) (between rec a (a + 8)) (sym n) (λ i l. at i l ∙ sym (between-at rec a (a + 8) i (omega arith)))
+  where
+    at : (i : ℕ) → i < 8 → getD (storedOf form rec) i 0 ≡ getD rec (3 + form .counts + i) 0
+    at zero l = ap (λ (j : ℕ). getD rec j 0) (let q : 3 + form .counts ≡ 3 + form .counts + 0 = omega arith in q)
+    at (suc zero) l = refl
+    at (suc (suc zero)) l = refl
+    at (suc (suc (suc zero))) l = refl
+    at (suc (suc (suc (suc zero)))) l = refl
+    at (suc (suc (suc (suc (suc zero))))) l = refl
+    at (suc (suc (suc (suc (suc (suc zero)))))) l = refl
+    at (suc (suc (suc (suc (suc (suc (suc zero))))))) l = refl
+    at (suc (suc (suc (suc (suc (suc (suc (suc i)))))))) l = absurd (omega arith)
+
+-- the prefix from its two parts
+prefix-of : (form : Form) (rec : List ℕ) (p : Prefix) → 3 + form .counts + 8 ≤ length rec → getD rec 2 0 ≡ p .full .0
+    → between rec (3 + form .counts) (3 + form .counts + 8) ≡ p .stored → prefixAt form rec ≡ p
+unfolding prefixAt
+prefix-of form rec p h full stored =
+    ap₂ (λ (n : ℕ) (l : List ℕ). record { full = record { 0 = n }; stored = l }) full (stored-part form rec h ∙ stored)
+
+-- ---- another body and child count
+module _ (form : Form) (eight : form .prefix ≡ 8) (kind : ℕ) (rec body : List ℕ) (m : ℕ) (long : length rec ≡ recordWords form kind) (size : length body ≡ bodyWords kind) where
+  abbrev base : List ℕ
+  base = withBody form kind rec body
+
+  fits : length body ≡ recordWords form kind - header form
+  fits = size ∙ omega arith
+
+  base-long : length base ≡ length rec
+  base-long = splice-length rec (header form) (recordWords form kind) body (omega arith) (omega arith) fits
+
+  word : (i : ℕ) → i < 3 → getD base i 0 ≡ getD rec i 0
+  word i h = splice-at-before rec (header form) (recordWords form kind) body (omega arith) (omega arith) fits i (omega arith)
+
+  stored : between (set base 1 m) (3 + form .counts) (3 + form .counts + 8) ≡ between rec (3 + form .counts) (3 + form .counts + 8)
+  stored =
+      between-set-before base (3 + form .counts) (3 + form .counts + 8) 1 m (omega arith)
+      ∙ splice-before rec (header form) (recordWords form kind) body (omega arith) (omega arith) fits (3 + form .counts) (3 + form .counts + 8) (omega arith) (omega arith)
+
+  body-head : Head form (set base 1 m) (getD rec 0 0) m (prefixAt form rec)
+  unfolding prefixAt
+  body-head =
+      record {
+        first = getD-set-other base 1 0 m 0 (λ z. omega arith) ∙ word 0 (omega arith);
+        second = getD-set-same base 1 m 0 (omega (arith, base-long));
+        prefix =
+            prefix-of form (set base 1 m) (prefixAt form rec) (omega (arith, length-set base 1 m, base-long))
+            (getD-set-other base 1 2 m 0 (λ z. omega arith) ∙ word 2 (omega arith))
+            (stored ∙ sym (stored-part form rec (omega arith)));
+      }
+
+  body-part : bodyPart form kind (set base 1 m) ≡ body
+  body-part =
+      between-set-before base (header form) (recordWords form kind) 1 m (omega arith)
+      ∙ splice-same rec (header form) (recordWords form kind) body (omega arith) (omega arith) fits
+
+  body-long : length (set base 1 m) ≡ recordWords form kind
+  body-long = length-set base 1 m ∙ base-long ∙ long
+
+module _ {form : Form} (eight : form .prefix ≡ 8) {kind : ℕ} {rec : List ℕ} {p : Prefix} {row : Row} (i : Inner form kind rec p row) where
+  with-body : (body : List ℕ) (m : ℕ) (more : Row) → 2 ≤ m → Holds kind body m more → Inner form kind (set (withBody form kind rec body) 1 m) p more
+  with-body body m more two h =
+      let head = body-head form eight kind rec body m (i .fits .long) (h .fits .long) in
+      inner-made form kind (set (withBody form kind rec body) 1 m) m p body more (body-long form eight kind rec body m (i .fits .long) (h .fits .long))
+      (record { first = head .first ∙ inner-kind i; second = head .second; prefix = head .prefix ∙ i .prefix }) (inner-fits i) two
+      (body-part form eight kind rec body m (i .fits .long) (h .fits .long)) h
+
+  pub add-inner : (b r : ℕ) → length row < childrenOf kind → b < 256 → refFor b row ≡ 0 → 0 < r → Inner form kind (addOf form kind rec b r) p (rowInsert b r row)
+  unfolding addOf
+  add-inner b r room low z some =
+      with-body (bodyAdd kind (bodyPart form kind rec) (getD rec 1 0) b r) (getD rec 1 0 + 1) (rowInsert b r row) (omega (arith, inner-two i, inner-size i))
+      (holds-add (inner-holds i) b r (omega (arith, inner-size i)) low z some)
+
+  pub remove-inner : (b : ℕ) → 3 ≤ length row → b < 256 → 0 < refFor b row → Inner form kind (removeOf form kind rec b) p (rowRemove b row)
+  unfolding removeOf
+  remove-inner b three low some =
+      with-body (bodyRemove kind (bodyPart form kind rec) (getD rec 1 0) b) (getD rec 1 0 - 1) (rowRemove b row) (omega (arith, inner-size i)) (holds-remove (inner-holds i) b low some)
+
+  pub replace-inner : (b r : ℕ) → b < 256 → 0 < refFor b row → 0 < r → Inner form kind (replaceOf form kind rec b r) p (rowReplace b r row)
+  unfolding replaceOf
+  replace-inner b r low some new =
+      let body = bodyReplace kind (bodyPart form kind rec) (getD rec 1 0) b r in
+      let h = holds-replace (inner-holds i) b r low some new in
+      subst (λ (l : List ℕ). Inner form kind l p (rowReplace b r row))
+      (ap (set (withBody form kind rec body) 1) (sym (word form eight kind rec body 0 (i .fits .long) (h .fits .long) 1 (omega arith))) ∙ set-getD (withBody form kind rec body) 1 0)
+      (with-body body (getD rec 1 0) (rowReplace b r row) (omega (arith, inner-two i, inner-size i)) h)
+
+-- ---- another prefix
+module _ (form : Form) (p : Prefix) (rec : List ℕ) (eight : length (p .stored) ≡ 8) (long : 3 + form .counts + 8 ≤ length rec) where
+  abbrev full : List ℕ
+  full = set rec 2 (p .full .0)
+
+  abbrev s : ℕ
+  s = 3 + form .counts
+
+  full-long : length full ≡ length rec
+  full-long = length-set rec 2 (p .full .0)
+
+  fits-8 : length (p .stored) ≡ s + 8 - s
+  fits-8 = eight ∙ omega arith
+
+  pub prefix-long : length (setPrefix form p rec) ≡ length rec
+  unfolding setPrefix
+  prefix-long = splice-length full s (s + 8) (p .stored) (omega arith) (omega (arith, full-long)) fits-8 ∙ full-long
+
+  early : (i : ℕ) → i < 3 → getD (setPrefix form p rec) i 0 ≡ getD full i 0
+  unfolding setPrefix
+  early i h = splice-at-before full s (s + 8) (p .stored) (omega arith) (omega (arith, full-long)) fits-8 i (omega arith)
+
+  pub prefix-head : Head form (setPrefix form p rec) (getD rec 0 0) (getD rec 1 0) p
+  unfolding setPrefix
+  prefix-head =
+      record {
+        first = early 0 (omega arith) ∙ getD-set-other rec 2 0 (p .full .0) 0 (λ z. omega arith);
+        second = early 1 (omega arith) ∙ getD-set-other rec 2 1 (p .full .0) 0 (λ z. omega arith);
+        prefix =
+            prefix-of form (setPrefix form p rec) p (omega (arith, prefix-long))
+            (early 2 (omega arith) ∙ getD-set-same rec 2 (p .full .0) 0 (omega arith))
+            (splice-same full s (s + 8) (p .stored) (omega arith) (omega (arith, full-long)) fits-8);
+      }
+
+  pub prefix-after : (a e : ℕ) → s + 8 ≤ a → between (setPrefix form p rec) a e ≡ between rec a e
+  unfolding setPrefix
+  prefix-after a e h =
+      splice-after full s (s + 8) (p .stored) (omega arith) (omega (arith, full-long)) fits-8 a e h ∙ between-set-before rec a e 2 (p .full .0) (omega arith)
+
+pub prefix-inner : {form : Form} → form .prefix ≡ 8 → {kind : ℕ} {rec : List ℕ} {q : Prefix} {row : Row} → Inner form kind rec q row → (p : Prefix) → PrefixFits form p
+    → Inner form kind (setPrefix form p rec) p row
+prefix-inner {form} eight {kind} {rec} {q} {row} i p f =
+    let room : 3 + form .counts + 8 ≤ length rec = omega (arith, i .fits .long) in
+    let head = prefix-head form p rec (f .eight) room in
+    inner-made form kind (setPrefix form p rec) (getD rec 1 0) p (bodyPart form kind rec) row (prefix-long form p rec (f .eight) room ∙ i .fits .long)
+    (record { first = head .first ∙ inner-kind i; second = head .second; prefix = head .prefix }) f (omega (arith, inner-two i, inner-size i))
+    (prefix-after form p rec (f .eight) room (header form) (recordWords form kind) (omega arith)) (inner-holds i)
+
+-- ---- a record built from a prefix and a row
+module _ (form : Form) (eight : form .prefix ≡ 8) (kind : ℕ) (p : Prefix) (f : PrefixFits form p) (n : ℕ) where
+  abbrev start : List ℕ
+  start = set (set (replicate (header form) 0) 0 kind) 1 n
+
+  start-long : length start ≡ header form
+  start-long = length-set (set (replicate (header form) 0) 0 kind) 1 n ∙ length-set (replicate (header form) 0) 0 kind ∙ length-replicate (header form) 0
+
+  head-long : length (setHead form kind n p (replicate (header form) 0)) ≡ header form
+  unfolding setHead
+  head-long = prefix-long form p start (f .eight) (omega (arith, start-long)) ∙ start-long
+
+  head-head : Head form (setHead form kind n p (replicate (header form) 0)) kind n p
+  unfolding setHead
+  head-head =
+      let h = prefix-head form p start (f .eight) (omega (arith, start-long)) in
+      let zero-long = length-replicate {A = ℕ} (header form) 0 in
+      record {
+        first = h .first ∙ getD-set-other (set (replicate (header form) 0) 0 kind) 1 0 n 0 (λ z. omega arith) ∙ getD-set-same (replicate (header form) 0) 0 kind 0 (omega arith);
+        second = h .second ∙ getD-set-same (set (replicate (header form) 0) 0 kind) 1 n 0 (omega (arith, length-set (replicate (header form) 0) 0 kind));
+        prefix = h .prefix;
+      }
+
+-- a head goes on with any body
+head-on : (form : Form) (l body : List ℕ) (kind n : ℕ) (p : Prefix) → 3 + form .counts + 8 ≤ length l → Head form l kind n p → Head form (l ++ body) kind n p
+unfolding prefixAt
+head-on form l body kind n p long h =
+    let a = 3 + form .counts in
+    record {
+      first = List·getD-append l body 0 0 (omega arith) ∙ h .first;
+      second = List·getD-append l body 0 1 (omega arith) ∙ h .second;
+      prefix =
+          prefix-of form (l ++ body) p (omega (arith, length-append l body))
+          (List·getD-append l body 0 2 (omega arith) ∙ ap (λ (q : Prefix). q .full .0) (h .prefix))
+          (between-left l body a (a + 8) (omega arith) long ∙ sym (stored-part form l long) ∙ ap (λ (q : Prefix). q .stored) (h .prefix));
+    }
+
+pub build-inner : (form : Form) → form .prefix ≡ 8 → (kind : ℕ) (p : Prefix) (row : Row) → 1 ≤ kind → kind ≤ 4 → PrefixFits form p → 2 ≤ length row → length row ≤ childrenOf kind
+    → Climbs 0 row → Inner form kind (buildRec form kind p row) p row
+unfolding buildRec
+build-inner form eight kind p row low high f two few c =
+    let n = length row in
+    let head = setHead form kind n p (replicate (header form) 0) in
+    let body = bodyOf kind row in
+    let h = holds-built kind row low high few c in
+    let hl = head-long form eight kind p f n in
+    inner-made form kind (head ++ body) n p body row (omega (arith, length-append head body, hl, h .fits .long)) (head-on form head body kind n p (omega (arith, hl)) (head-head form eight kind p f n)) f two
+    (ap (λ (l : List ℕ). between (head ++ l) (header form) (recordWords form kind)) (sym (append-nil body))
+    ∙ between-middle head body [] (header form) (recordWords form kind) hl (h .fits .long ∙ omega arith))
+    h
+
+-- ---- a record moved to another kind, with its children in byte order
+pub move-inner : {form : Form} → form .prefix ≡ 8 → {kind : ℕ} {rec : List ℕ} {p : Prefix} {row : Row} → Inner form kind rec p row → (to : ℕ) → 1 ≤ to → to ≤ 4
+    → length row ≤ childrenOf to → Inner form to (buildRec form to p (directRow (spreadOf form kind rec))) p row
+move-inner {form} eight {kind} {rec} {p} {row} i to low high few =
+    subst (λ (l : Row). Inner form to (buildRec form to p l) p row) (sym (spread-of i .1))
+    (build-inner form eight to p row low high (inner-fits i) (inner-two i) few (inner-climbs i))

@@ -1,0 +1,45 @@
+-- `inner_node_indirect::indirect_put` meets its contract: where there is no reference nothing is done, else the byte's slot names the next place, and that place is written.
+use mathlib.Core.Path.{refl}
+use native.Mathlib.Omega.{arith}
+use lib.ListN.{length-set}
+use borrow.Author.Tests.{eq-eqb, ne-eqb}
+use borrow.Author.Needs.{needs}
+use Rattle.edits.proofs.Fills.{put-room}
+use Rattle.edits.proofs.inner_node_indirect.indirect_put.Statement.{statement}
+use Rattle.edits.proofs.inner_node_indirect.indirect_put.Tie as tie
+
+returns : tie.Need-returns
+returns c = simp (eq-eqb _ _ (c .if1 .taken)) (refl, refl)
+
+add-at : tie.Need-add-at
+add-at c = omega (arith, put-room (c .before .args .reference) (c .before .args .s) (c .if1 .left))
+
+add-next : tie.Need-add-next
+add-next c = omega (arith, put-room (c .before .args .reference) (c .before .args .s) (c .if1 .left))
+
+cast-body : tie.Need-cast-body
+cast-body c = omega (arith, put-room (c .before .args .reference) (c .before .args .s) (c .if1 .left))
+
+mul-body-2 : tie.Need-mul-body-2
+mul-body-2 c = omega (arith, put-room (c .before .args .reference) (c .before .args .s) (c .if1 .left))
+
+slice-write-body-2 : tie.Need-slice-write-body-2
+slice-write-body-2 c = simp length-set (omega (arith, put-room (c .before .args .reference) (c .before .args .s) (c .if1 .left)))
+
+returns-2 : tie.Need-returns-2
+returns-2 c = simp (ne-eqb _ _ (c .if1 .left)) (refl, refl)
+
+pub indirect-put-spec : {M : Type 1} → statement M
+indirect-put-spec =
+    tie.close
+    (tie.spec
+    returns
+    add-at
+    add-next
+    cast-body
+    (λ c. search needs)
+    (λ c. search needs)
+    mul-body-2
+    slice-write-body-2
+    (λ c. search needs)
+    returns-2)

@@ -1,0 +1,63 @@
+-- `representation::body_add` meets its contract: by the kind, whose rule says that there is a free place.
+use mathlib.Core.Path.{ap}
+use native.Mathlib.Omega.{arith}
+use borrow.Author.Tests.{le-leb, lt-leb, eq-eqb, ne-eqb}
+use borrow.Author.Needs.{needs}
+use Rattle.frames.specs.declared.kind.KindRow.{KindRow}
+use Rattle.records.proofs.Owns.{sorted-fits, indirect-fits, direct-fits}
+use Rattle.edits.specs.Body.{bodyAdd}
+use Rattle.edits.proofs.Rooms.{empty-room}
+use Rattle.edits.proofs.representation.body_add.Statement.{statement}
+use Rattle.edits.proofs.representation.body_add.Tie as tie
+
+sorted-add-requires : tie.Need-sorted-add-requires
+sorted-add-requires c κs =
+    let b3 = c .before .before .before in
+    let b5 = b3 .before .before in
+    omega (arith, ap (λ (r : KindRow). r .children) (c .before .before .row-of .ensures), sorted-fits (b5 .pre .0) (b3 .if1 .taken) .0, b5 .pre .1)
+
+returns : tie.Need-returns
+unfolding bodyAdd
+returns c =
+    let b5 = c .before .before .before .before .before in
+    let b6 = b5 .before in
+    simp (le-leb _ _ (b6 .if1 .taken), ← (ap (λ (r : KindRow). r .children) (b5 .row-of .ensures)), c .before .before .sorted-add .ensures)
+
+indirect-add-requires : tie.Need-indirect-add-requires
+indirect-add-requires c κs =
+    let b4 = c .before .before .before .before in
+    let w = b4 .pre .0 in
+    ((omega arith, indirect-fits w (c .before .if2 .taken) .0), empty-room w (c .before .if2 .taken) (b4 .pre .1))
+
+returns-2 : tie.Need-returns-2
+unfolding bodyAdd
+returns-2 c =
+    let b4 = c .before .before .before .before in
+    let b5 = b4 .before in
+    simp (lt-leb _ _ (b5 .if1 .left), eq-eqb _ _ (b4 .if2 .taken), c .before .before .indirect-add .ensures)
+
+direct-set-requires : tie.Need-direct-set-requires
+direct-set-requires c κs = (omega arith, direct-fits (c .before .before .before .before .pre .0) (c .before .before .if1 .left) (c .before .if2 .left) .0)
+
+returns-3 : tie.Need-returns-3
+unfolding bodyAdd
+returns-3 c =
+    let b4 = c .before .before .before .before in
+    let b5 = b4 .before in
+    simp (lt-leb _ _ (b5 .if1 .left), ne-eqb _ _ (b4 .if2 .left), c .before .before .direct-set .ensures)
+
+pub body-add-spec : {M : Type 1} → statement M
+body-add-spec =
+    tie.close
+    (tie.spec
+    (λ c κs. search needs)
+    (λ c. search needs)
+    sorted-add-requires
+    (λ c. search needs)
+    returns
+    indirect-add-requires
+    (λ c. search needs)
+    returns-2
+    direct-set-requires
+    (λ c. search needs)
+    returns-3)

@@ -1,0 +1,111 @@
+-- The body of an inner record changed, by kind, and the body of a row.
+use Prim.Native.Nat.{ℕ, zero, suc, _+_, _-_}
+use mathlib.Core.List.{List, [], _∷_, _++_}
+use mathlib.Core.Bool.{true, false}
+use lib.ListN.{length, getD, set, replicate}
+use lib.Dec.{eqb, leb}
+use Rattle.lists.specs.Scan.{choose, is, atLeast, first}
+use Rattle.lists.specs.Part.{between}
+use Rattle.lists.specs.Edit.{shiftIn, shiftOut}
+use Rattle.frames.specs.Kind.{childrenOf}
+use Rattle.records.specs.Row.{sortedRow, spread, refFor}
+
+-- ── kinds 1 and 2, with k places of which n are used ──
+-- where a byte goes, and where it is
+abbrev pub placeFor : List ℕ → ℕ → ℕ → ℕ
+placeFor body n byte = first (atLeast byte) (between body 0 n)
+
+abbrev pub placeOf : List ℕ → ℕ → ℕ → ℕ
+placeOf body n byte = first (is byte) (between body 0 n)
+
+-- a child more: its byte among the ascending bytes, its reference at the same place
+unfoldable pub sortedAdd : ℕ → List ℕ → ℕ → ℕ → ℕ → List ℕ
+sortedAdd k body n byte ref =
+    shiftIn (placeFor body n byte) byte (between body 0 k) ++ shiftIn (placeFor body n byte) ref (between body k (k + k))
+
+-- a child less
+unfoldable pub sortedRemove : ℕ → List ℕ → ℕ → ℕ → List ℕ
+sortedRemove k body n byte = shiftOut (placeOf body n byte) (between body 0 k) ++ shiftOut (placeOf body n byte) (between body k (k + k))
+
+-- another reference for a child
+unfoldable pub sortedReplace : ℕ → List ℕ → ℕ → ℕ → ℕ → List ℕ
+sortedReplace k body n byte ref = set body (k + placeOf body n byte) ref
+
+-- ── kind 3 ──
+-- a new child takes the lowest unused slot
+unfoldable pub slotAdd : List ℕ → ℕ → ℕ → List ℕ
+slotAdd body byte ref = set (set body byte (first (is 0) (between body 256 304) + 1)) (256 + first (is 0) (between body 256 304)) ref
+
+-- a child less leaves a hole
+unfoldable pub slotRemove : List ℕ → ℕ → List ℕ
+slotRemove body byte = set (set body byte 0) (255 + getD body byte 0) 0
+
+unfoldable pub slotReplace : List ℕ → ℕ → ℕ → List ℕ
+slotReplace body byte ref = set body (255 + getD body byte 0) ref
+
+-- ── every kind ──
+unfoldable pub bodyAdd : ℕ → List ℕ → ℕ → ℕ → ℕ → List ℕ
+bodyAdd kind body n byte ref =
+    choose (leb kind 2) (sortedAdd (childrenOf kind) body n byte ref) (choose (eqb kind 3) (slotAdd body byte ref) (set body byte ref))
+
+unfoldable pub bodyRemove : ℕ → List ℕ → ℕ → ℕ → List ℕ
+bodyRemove kind body n byte =
+    choose (leb kind 2) (sortedRemove (childrenOf kind) body n byte) (choose (eqb kind 3) (slotRemove body byte) (set body byte 0))
+
+unfoldable pub bodyReplace : ℕ → List ℕ → ℕ → ℕ → ℕ → List ℕ
+bodyReplace kind body n byte ref =
+    choose (leb kind 2) (sortedReplace (childrenOf kind) body n byte ref) (choose (eqb kind 3) (slotReplace body byte ref) (set body byte ref))
+
+-- ── 256 places, one for each byte: the references of a body, and of a row ──
+-- g of each of the m numbers from b on
+abbrev pub tab : ℕ → ℕ → (ℕ → ℕ) → List ℕ
+tab zero b g = []
+tab (suc m) b g = g b ∷ tab m (suc b) g
+
+abbrev pub rowSpread : List (ℕ × ℕ) → List ℕ
+rowSpread row = tab 256 0 (λ b. refFor b row)
+
+unfoldable pub sortedSpread : ℕ → List ℕ → ℕ → List ℕ
+sortedSpread k body n = rowSpread (sortedRow k body n)
+
+unfoldable pub slotSpread : List ℕ → List ℕ
+slotSpread body = spread (between body 256 304) (between body 0 256)
+
+unfoldable pub bodySpread : ℕ → List ℕ → ℕ → List ℕ
+bodySpread kind body n = choose (leb kind 2) (sortedSpread (childrenOf kind) body n) (choose (eqb kind 3) (slotSpread body) body)
+
+-- ── the body of a row ──
+abbrev pub bytesOf : List (ℕ × ℕ) → List ℕ
+bytesOf [] = []
+bytesOf (e ∷ es) = e .0 ∷ bytesOf es
+
+abbrev pub refsOf : List (ℕ × ℕ) → List ℕ
+refsOf [] = []
+refsOf (e ∷ es) = e .1 ∷ refsOf es
+
+-- these, and 0 up to k
+abbrev pub padded : ℕ → List ℕ → List ℕ
+padded k l = l ++ replicate (k - length l) 0
+
+-- the slot number of a byte: one more than its place in the row, 0 where it has none
+abbrev pub slotFor : ℕ → List (ℕ × ℕ) → ℕ
+slotFor b [] = 0
+slotFor b (e ∷ es) = elim (eqb (e .0) b) [ true ↦ 1 | false ↦ choose (eqb (slotFor b es) 0) 0 (suc (slotFor b es)) ]
+
+-- key bytes ascending, then references in the same order
+unfoldable pub sortedBody : ℕ → List (ℕ × ℕ) → List ℕ
+sortedBody k row = padded k (bytesOf row) ++ padded k (refsOf row)
+
+-- slots in byte order
+unfoldable pub slotBody : List (ℕ × ℕ) → List ℕ
+slotBody row = tab 256 0 (λ b. slotFor b row) ++ padded 48 (refsOf row)
+
+-- one child more at the end of a body that is filled in byte order, after i others
+abbrev pub sortedPut : ℕ → ℕ → ℕ → ℕ → List ℕ → List ℕ
+sortedPut k i byte ref body = set (set body i byte) (k + i) ref
+
+abbrev pub slotPut : ℕ → ℕ → ℕ → List ℕ → List ℕ
+slotPut i byte ref body = set (set body byte (i + 1)) (256 + i) ref
+
+unfoldable pub bodyOf : ℕ → List (ℕ × ℕ) → List ℕ
+bodyOf kind row = choose (leb kind 2) (sortedBody (childrenOf kind) row) (choose (eqb kind 3) (slotBody row) (rowSpread row))

@@ -1,0 +1,4 @@
+pub mod Head
+pub mod Body
+pub mod Rows
+pub mod Record

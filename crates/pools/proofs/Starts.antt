@@ -1,0 +1,49 @@
+-- What the test of start gives, and the slices that it leaves.
+use Prim.Native.Nat.{ℕ, _+_, _-_, _*_, _≤_}
+use mathlib.Core.Path.{_≡_, sym, ap, ap₂, _∙_}
+use mathlib.Core.List.{List, _++_}
+use mathlib.Core.Bool.{Bool, true, false, _&&_}
+use native.Mathlib.Omega.{arith}
+use lib.ListN.{length, replicate}
+use lib.Dec.{eqb}
+use borrow.Author.Tests.{eqb-true}
+use Rattle.lists.specs.Scan.{choose}
+use Rattle.lists.specs.Part.{splice}
+use Rattle.lists.proofs.Tests.{both}
+use Rattle.frames.specs.Form.{formOf, sizesOf}
+use Rattle.frames.specs.Frame.{capsSmall, SmallCaps, backsOf}
+use Rattle.frames.specs.declared.form.Form.{Form}
+use Rattle.frames.specs.declared.frame.Caps.{Caps}
+use Rattle.frames.proofs.Frames.{caps-small}
+use Rattle.pools.specs.Start.{startFits, trailerWords, Out, out, startOf}
+use Rattle.pools.specs.declared.start.Started.the-variants.{Done, Refused}
+use Rattle.lists.proofs.Pieces.{zeros-then}
+
+-- it lets only small capacities pass, and slices with room for the trailer
+pub starts-small : (form : Form) (c : Caps) (n k : ℕ) → startFits form c n k ≡ true → SmallCaps c × (16 ≤ n)
+unfolding startFits
+starts-small form c n k e =
+    let b = backsOf (sizesOf form) c .b1 in
+    let p = both (capsSmall c) (eqb n (b + 16) && eqb k (c .c5 * form .limit)) e in
+    let q = both (eqb n (b + 16)) (eqb k (c .c5 * form .limit)) (p .1) in
+    (caps-small c (p .0), omega (arith, eqb-true n (b + 16) (q .0)))
+
+module _ (words keys : List ℕ) (c : Caps) where
+  abbrev fits : Bool
+  fits = startFits (formOf 1) c (length words) (length keys)
+
+  abbrev done : Out
+  done = out Done (replicate (length words - 16) 0 ++ trailerWords (formOf 1) c) (replicate (length keys) 0)
+
+  -- all cleared, and the trailer laid over the last 16 words
+  pub start-done : fits ≡ true → (w t k : List ℕ) → w ≡ replicate (length words) 0 → t ≡ trailerWords (formOf 1) c → k ≡ replicate (length keys) 0
+      → out Done (splice w (length words - 16) (length words) t) k ≡ startOf words keys c
+  unfolding startOf
+  start-done e w t k a b d =
+      ap₂ (λ (x y : List ℕ). out Done (splice x (length words - 16) (length words) t) y) a d
+      ∙ ap (λ (x : List ℕ). out Done x (replicate (length keys) 0)) (zeros-then (length words - 16) (length words) t (omega arith) ∙ ap (λ (x : List ℕ). replicate (length words - 16) 0 ++ x) b)
+      ∙ sym (ap (λ (v : Bool). choose v done (out Refused words keys)) e)
+
+  pub start-refused : fits ≡ false → out Refused words keys ≡ startOf words keys c
+  unfolding startOf
+  start-refused e = sym (ap (λ (v : Bool). choose v done (out Refused words keys)) e)

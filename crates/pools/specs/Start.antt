@@ -1,0 +1,60 @@
+-- Start: the slices of an empty directory, or a refusal that changes nothing.
+use Prim.Native.Nat.{ℕ, _+_, _-_, _*_}
+use mathlib.Core.List.{List, [], _∷_, _++_}
+use mathlib.Core.Bool.{Bool, _&&_}
+use lib.ListN.{length, replicate}
+use lib.Dec.{eqb}
+use Rattle.lists.specs.Scan.{choose}
+use Rattle.frames.specs.Form.{formOf, sizesOf}
+use Rattle.frames.specs.Frame.{capsSmall, backsOf}
+use Rattle.frames.specs.declared.form.Form.{Form}
+use Rattle.frames.specs.declared.frame.Caps.{Caps}
+use Rattle.pools.specs.declared.start.Started.{Started}
+use Rattle.pools.specs.declared.start.Started.the-variants.{Done, Refused}
+
+-- the number given back
+abbrev pub startNumber : Started → ℕ
+startNumber Done = 0
+startNumber Refused = 8
+
+-- capacities up to 4,096, and slices of the exact lengths
+unfoldable pub startFits : Form → Caps → ℕ → ℕ → Bool
+startFits form c n k = capsSmall c && (eqb n (backsOf (sizesOf form) c .b1 + 16) && eqb k (c .c5 * form .limit))
+
+-- form, distances, capacities; no root, first, last or tag; the total
+unfoldable pub trailerWords : Form → Caps → List ℕ
+trailerWords form c =
+    let b = backsOf (sizesOf form) c in
+    form .number
+    ∷ b .b1
+    ∷ b .b2
+    ∷ b .b3
+    ∷ b .b4
+    ∷ b .b5
+    ∷ c .c1
+    ∷ c .c2
+    ∷ c .c3
+    ∷ c .c4
+    ∷ c .c5
+    ∷ 0
+    ∷ 0
+    ∷ 0
+    ∷ 0
+    ∷ (b .b1 + 16)
+    ∷ []
+
+-- an answer, and the slices as the call leaves them
+pub record Out : Type 0 where
+  pub answer : Started
+  pub words : List ℕ
+  pub keys : List ℕ
+
+abbrev pub out : Started → List ℕ → List ℕ → Out
+out a w k = record { answer = a; words = w; keys = k }
+
+-- all words 0 but the trailer, all key bytes 0
+unfoldable pub startOf : List ℕ → List ℕ → Caps → Out
+startOf words keys c =
+    choose (startFits (formOf 1) c (length words) (length keys))
+    (out Done (replicate (length words - 16) 0 ++ trailerWords (formOf 1) c) (replicate (length keys) 0))
+    (out Refused words keys)

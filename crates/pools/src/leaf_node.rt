@@ -1,0 +1,49 @@
+// Leaves, written: six words, the key bytes of the tag, and the list of the leaves in the order of their tags.
+ghost use mathlib.Core.Path.{_≡_};
+ghost use Prim.Native.Nat.{_≤_, _%_, _/_, _^_};
+ghost use lib.ListN.{length};
+ghost use Rattle.pools.specs.Leaf.{leafWords, keyBytes, setTotal};
+use lists::edit;
+
+// The low half of a total.
+fn low_half(total: u64) -> u32
+    ensures { λ r. ⌜ r ≡ total % 2 ^ 32 ⌝ }
+{
+    (total % 4294967296) as u32
+}
+
+// The high half.
+fn high_half(total: u64) -> u32
+    ensures { λ r. ⌜ r ≡ total / 2 ^ 32 ⌝ }
+{
+    (total / 4294967296) as u32
+}
+
+// A leaf in use: its tag's length, its neighbours, its total.
+pub fn write_leaf(rec: &mut [u32], len: u32, previous: u32, next: u32, total: u64)
+    requires { ⌜ length (now rec) ≡ 6 ⌝ }
+    ensures { λ _. ⌜ now (rec .exit) ≡ leafWords len previous next total ⌝ }
+{
+    let leaf = [1, len, previous, next, low_half(total), high_half(total)];
+    edit::copy(rec, &leaf);
+}
+
+// Another total.
+pub fn set_total(rec: &mut [u32], total: u64)
+    requires { ⌜ length (now rec) ≡ 6 ⌝ }
+    ensures { λ _. ⌜ now (rec .exit) ≡ setTotal total (now (rec .entry)) ⌝ }
+{
+    rec[4] = low_half(total);
+    rec[5] = high_half(total);
+}
+
+// The tag, and 0 after it.
+pub fn write_key(key: &mut [u8], tag: &[u8])
+    requires { ⌜ length (now tag) ≤ length (now key) ⌝ }
+    ensures { λ _. ⌜ now (key .exit) ≡ keyBytes (length (now (key .entry))) (now (tag .entry)) ⌝ }
+{
+    let n = tag.len();
+    let e = key.len();
+    edit::copy_bytes(&mut key[0..n], tag);
+    edit::clear_bytes(&mut key[n..e]);
+}
