@@ -1,0 +1,12 @@
+-- `directory_c::directory_search` meets its contract: the answer of search, as C sees it.
+use mathlib.Core.Path.{ap, _∙_}
+use Rattle.directory_c.specs.Numbers.{foundOf}
+use borrow.Author.Needs.{needs}
+use Rattle.directory_c.proofs.directory_search.Statement.{statement}
+use Rattle.directory_c.proofs.directory_search.Tie as tie
+
+returns : tie.Need-returns
+returns c = c .found .ensures ∙ ap foundOf (c .before .search .ensures)
+
+pub directory-search-spec : {M : Type 1} → statement M
+directory-search-spec = tie.close (tie.spec (λ c κs. search needs) (λ c κs. search needs) returns)

@@ -1,0 +1,13 @@
+-- `directory_c::directory_start` meets its contract: the number of start's answer, and the slices as start leaves them.
+use mathlib.Core.Path.{ap}
+use Rattle.directory_c.specs.Numbers.{startedOf}
+use borrow.Author.Needs.{needs}
+use Rattle.directory_c.proofs.directory_start.Statement.{statement}
+use Rattle.directory_c.proofs.directory_start.Tie as tie
+
+returns : tie.Need-returns
+returns c = rw (c .start-number .ensures) (ap startedOf (c .before .before .before .before .before .start .ensures))
+
+pub directory-start-spec : {M : Type 1} → statement M
+directory-start-spec =
+    tie.close (tie.spec (λ c κs. search needs) (λ c κs. search needs) (λ c. search needs) (λ c. search needs) returns)

@@ -1,0 +1,48 @@
+-- The answers as C sees them: a number, and values that are 0 on a refusal.
+use Prim.Native.Nat.{ℕ, _*_}
+use mathlib.Core.List.{List}
+use lib.ListN.{length}
+use lib.Dec.{eqb}
+use Rattle.lists.specs.Scan.{choose}
+use Rattle.frames.specs.Frame.{trailerOf, frameFits, frameOf}
+use Rattle.pools.specs.Start.{Out, startNumber}
+use Rattle.frames.specs.declared.frame.Caps.{Caps}
+use Rattle.tree.specs.Answer.{foundNumber, foundLeaf, foundTotal, factsNumber, factsLength, factsTotal}
+use Rattle.tree.specs.Leaf.{tagOf}
+use Rattle.tree.specs.declared.answer.Found.{Found}
+use Rattle.tree.specs.declared.answer.Facts.{Facts}
+use Rattle.directory_c.specs.declared.DirectoryFound.{DirectoryFound}
+use Rattle.directory_c.specs.declared.DirectoryLeaf.{DirectoryLeaf}
+use Rattle.directory_c.specs.declared.DirectoryPart.{DirectoryPart}
+
+abbrev pub foundOf : Found → DirectoryFound
+foundOf a = record { number = foundNumber a; leaf = foundLeaf a; total = foundTotal a }
+
+abbrev pub leafOf : Facts → DirectoryLeaf
+leafOf a = record { number = factsNumber a; length = factsLength a; total = factsTotal a }
+
+-- where a leaf's key bytes begin
+abbrev pub tagStart : List ℕ → List ℕ → ℕ → ℕ
+tagStart words keys n = choose (frameFits words keys) (n * frameOf (trailerOf words) .form .limit) 0
+
+-- a leaf's tag as a part of the key bytes; 0 and 0 where it is empty
+unfoldable pub partOf : List ℕ → List ℕ → ℕ → DirectoryPart
+partOf words keys n =
+    choose (eqb (length (tagOf words keys n)) 0)
+    (record { start = 0; length = 0 })
+    (record { start = tagStart words keys n; length = length (tagOf words keys n) })
+
+abbrev pub capsOf : (c1 c2 c3 c4 c5 : ℕ) → Caps
+capsOf c1 c2 c3 c4 c5 = record { c1 = c1; c2 = c2; c3 = c3; c4 = c4; c5 = c5 }
+
+-- what start gives back, and the slices as it leaves them
+pub record DirectoryStarted : Type 0 where
+  pub number : ℕ
+  pub words : List ℕ
+  pub keys : List ℕ
+
+abbrev pub started : ℕ → List ℕ → List ℕ → DirectoryStarted
+started n w k = record { number = n; words = w; keys = k }
+
+abbrev pub startedOf : Out → DirectoryStarted
+startedOf o = started (startNumber (o .answer)) (o .words) (o .keys)

@@ -1,0 +1,186 @@
+// The functions for C. Slices pass as a pointer and a count; include/directory.h says what each call is for.
+ghost use mathlib.Core.Path.{_≡_};
+ghost use Rattle.pools.specs.Start.{startNumber, startOf};
+ghost use Rattle.tree.specs.Walk.{searchOf, prefixSearchOf};
+ghost use Rattle.tree.specs.Edge.{minimumOf, maximumOf};
+ghost use Rattle.tree.specs.Leaf.{nextLeafOf, factsOf};
+ghost use Rattle.directory_c.specs.Numbers.{started, startedOf, capsOf, foundOf, leafOf, tagStart, partOf};
+use frames::frame;
+use frames::frame::Caps;
+use pools::start::Started;
+use tree::answer::Facts;
+use tree::answer::Found;
+
+// A leaf's number and total, and the number given back.
+#[repr(C)]
+pub struct DirectoryFound {
+    pub number: u32,
+    pub leaf: u32,
+    pub total: u64,
+}
+
+// A leaf's tag length and total, and the number given back.
+#[repr(C)]
+pub struct DirectoryLeaf {
+    pub number: u32,
+    pub length: u32,
+    pub total: u64,
+}
+
+// A tag as a part of the key bytes; 0 and 0 where it is empty.
+#[repr(C)]
+pub struct DirectoryPart {
+    pub start: u64,
+    pub length: u64,
+}
+
+fn found(a: Found) -> DirectoryFound
+    ensures { λ r. ⌜ r ≡ foundOf a ⌝ }
+{
+    match a {
+        Found::Leaf(leaf, total) => DirectoryFound {
+            number: 0,
+            leaf: leaf,
+            total: total,
+        },
+        Found::Missing => DirectoryFound {
+            number: 1,
+            leaf: 0,
+            total: 0,
+        },
+        Found::Damaged => DirectoryFound {
+            number: 6,
+            leaf: 0,
+            total: 0,
+        },
+        Found::NoLeaf => DirectoryFound {
+            number: 9,
+            leaf: 0,
+            total: 0,
+        },
+    }
+}
+
+fn facts(a: Facts) -> DirectoryLeaf
+    ensures { λ r. ⌜ r ≡ leafOf a ⌝ }
+{
+    match a {
+        Facts::Leaf(length, total) => DirectoryLeaf {
+            number: 0,
+            length: length,
+            total: total,
+        },
+        Facts::Damaged => DirectoryLeaf {
+            number: 6,
+            length: 0,
+            total: 0,
+        },
+        Facts::NoLeaf => DirectoryLeaf {
+            number: 9,
+            length: 0,
+            total: 0,
+        },
+    }
+}
+
+fn start_number(s: Started) -> u32
+    ensures { λ r. ⌜ r ≡ startNumber s ⌝ }
+{
+    match s {
+        Started::Done => 0,
+        Started::Refused => 8,
+    }
+}
+
+#[no_mangle]
+pub extern "C" fn directory_start(
+    words: &mut [u32],
+    keys: &mut [u8],
+    c1: u32,
+    c2: u32,
+    c3: u32,
+    c4: u32,
+    c5: u32,
+) -> u32
+    ensures { λ r. ⌜ started r (now (words .exit)) (now (keys .exit)) ≡ startedOf (startOf (now (words .entry)) (now (keys .entry)) (capsOf c1 c2 c3 c4 c5)) ⌝ }
+{
+    let c = Caps {
+        c1: c1,
+        c2: c2,
+        c3: c3,
+        c4: c4,
+        c5: c5,
+    };
+    start_number(pools::start::start(words, keys, c))
+}
+
+#[no_mangle]
+pub extern "C" fn directory_search(words: &[u32], keys: &[u8], tag: &[u8]) -> DirectoryFound
+    ensures { λ r. ⌜ r ≡ foundOf (searchOf (now (words .entry)) (now (keys .entry)) (now (tag .entry))) ⌝ }
+{
+    found(tree::lookup::search(words, keys, tag))
+}
+
+#[no_mangle]
+pub extern "C" fn directory_prefix_search(words: &[u32], keys: &[u8], tag: &[u8]) -> DirectoryFound
+    ensures { λ r. ⌜ r ≡ foundOf (prefixSearchOf (now (words .entry)) (now (keys .entry)) (now (tag .entry))) ⌝ }
+{
+    found(tree::lookup::prefix_search(words, keys, tag))
+}
+
+#[no_mangle]
+pub extern "C" fn directory_minimum(words: &[u32], keys: &[u8]) -> DirectoryFound
+    ensures { λ r. ⌜ r ≡ foundOf (minimumOf (now (words .entry)) (now (keys .entry))) ⌝ }
+{
+    found(tree::minmax::minimum(words, keys))
+}
+
+#[no_mangle]
+pub extern "C" fn directory_maximum(words: &[u32], keys: &[u8]) -> DirectoryFound
+    ensures { λ r. ⌜ r ≡ foundOf (maximumOf (now (words .entry)) (now (keys .entry))) ⌝ }
+{
+    found(tree::minmax::maximum(words, keys))
+}
+
+#[no_mangle]
+pub extern "C" fn directory_next_leaf(words: &[u32], keys: &[u8], leaf: u32) -> DirectoryFound
+    ensures { λ r. ⌜ r ≡ foundOf (nextLeafOf (now (words .entry)) (now (keys .entry)) leaf) ⌝ }
+{
+    found(tree::leaf::next_leaf(words, keys, leaf))
+}
+
+#[no_mangle]
+pub extern "C" fn directory_leaf_facts(words: &[u32], keys: &[u8], leaf: u32) -> DirectoryLeaf
+    ensures { λ r. ⌜ r ≡ leafOf (factsOf (now (words .entry)) (now (keys .entry)) leaf) ⌝ }
+{
+    facts(tree::leaf::leaf_facts(words, keys, leaf))
+}
+
+// Where the key bytes of a leaf begin.
+fn tag_start(words: &[u32], keys: &[u8], leaf: u32) -> u64
+    ensures { λ r. ⌜ r ≡ tagStart (now (words .entry)) (now (keys .entry)) leaf ⌝ }
+{
+    if frame::frame_fits(words, keys) {
+        let f = frame::frame_at(words, keys);
+        return leaf as u64 * f.form.limit as u64;
+    }
+    0
+}
+
+#[no_mangle]
+pub extern "C" fn directory_leaf_tag(words: &[u32], keys: &[u8], leaf: u32) -> DirectoryPart
+    ensures { λ r. ⌜ r ≡ partOf (now (words .entry)) (now (keys .entry)) leaf ⌝ }
+{
+    let tag = tree::leaf::leaf_tag(words, keys, leaf);
+    let n = tag.len();
+    if n == 0 {
+        return DirectoryPart {
+            start: 0,
+            length: 0,
+        };
+    }
+    DirectoryPart {
+        start: tag_start(words, keys, leaf),
+        length: n as u64,
+    }
+}

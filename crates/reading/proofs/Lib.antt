@@ -1,0 +1,9 @@
+pub mod Entries
+pub mod Arrivals
+pub mod Walks
+pub mod Edges
+pub mod Nexts
+pub mod Frees
+pub mod Answers
+pub mod Calls
+mod Examples

@@ -1,0 +1,1 @@
+// The reading calls on sound blocks: theorems alone, no code.

@@ -1,0 +1,52 @@
+-- The cases of `edgeRef`, `edgeStep` and `edgeOf`.
+use Prim.Native.Nat.{ℕ, zero, suc, _-_, _≤_, _<_}
+use mathlib.Core.Path.{_≡_, refl, sym, ap, _∙_}
+use mathlib.Core.List.{List}
+use native.Mathlib.Omega.{arith}
+use Rattle.frames.specs.Place.{placeAt}
+use Rattle.records.specs.Row.{rowAt}
+use Rattle.frames.specs.declared.form.Form.{Form}
+use Rattle.frames.specs.declared.frame.Frame.{Frame}
+use Rattle.records.specs.declared.representation.Entry.{Entry}
+use Rattle.tree.specs.Arrive.{arrivalAt}
+use Rattle.tree.specs.Edge.{entryRef, edgeEntry, edgeRef, edgeFrom, edgeStep, edgeEnded, edgeOf}
+use Rattle.tree.specs.declared.answer.Found.{Found}
+use Rattle.tree.specs.declared.arrive.Arrival.{Arrival}
+use Rattle.tree.specs.declared.minmax.Edge.{Edge}
+use Rattle.tree.specs.declared.minmax.EdgeStep.{EdgeStep}
+use Rattle.tree.specs.declared.minmax.EdgeStep.the-variants.{Next, Final}
+
+pub edge-by : (edge : Edge) (form : Form) (kind : ℕ) (rec : List ℕ) (entry : Entry) → edgeEntry edge (rowAt form kind rec) ≡ entry
+    → entryRef entry ≡ edgeRef edge form kind rec
+unfolding edgeRef
+edge-by edge form kind rec entry e = ap entryRef (sym e)
+
+module _ (f : Frame) (words keys : List ℕ) (edge : Edge) where
+  pub edge-step-by : (left ref : ℕ) (a : Arrival) → arrivalAt f words keys left (placeAt ref) ≡ a
+      → edgeFrom f words edge a ≡ edgeStep f words keys edge left ref
+  unfolding edgeStep
+  edge-step-by left ref a e = ap (edgeFrom f words edge) (sym e)
+
+  -- ---- the walk goes on where a step does, and ends where it does
+  go-on : ℕ → EdgeStep → Found
+  go-on left s = elim s [ Next r ↦ edgeOf f words keys edge left r | Final a ↦ a ]
+
+  pub edge-next : (left ref r : ℕ) → 0 < left → edgeStep f words keys edge left ref ≡ Next r
+      → edgeOf f words keys edge left ref ≡ edgeOf f words keys edge (left - 1) r
+  unfolding edgeOf go-on
+  edge-next zero ref r h e = absurd (omega arith)
+  edge-next (suc left) ref r h e = ap (go-on left) e ∙ ap (λ (n : ℕ). edgeOf f words keys edge n r) (let q : left ≡ suc left - 1 = omega arith in q)
+
+  pub edge-end : (left ref : ℕ) (a : Found) → edgeStep f words keys edge left ref ≡ Final a → edgeOf f words keys edge left ref ≡ a
+  unfolding edgeOf go-on
+  edge-end zero ref a e = ap edgeEnded e
+  edge-end (suc left) ref a e = ap (go-on left) e
+
+  pub edge-over : (left ref : ℕ) → left ≤ 0 → edgeOf f words keys edge left ref ≡ edgeEnded (edgeStep f words keys edge 0 ref)
+  unfolding edgeOf
+  edge-over zero ref h = refl
+  edge-over (suc left) ref h = absurd (omega arith)
+
+-- the walk at some point: what it answers from there is what it answers from the root
+pub record Descending (f : Frame) (words keys : List ℕ) (edge : Edge) (root left ref : ℕ) : Type 0 where
+  pub same-answer : edgeOf f words keys edge (f .form .limit) root ≡ edgeOf f words keys edge left ref

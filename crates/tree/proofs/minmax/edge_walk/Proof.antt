@@ -1,0 +1,58 @@
+-- `minmax::edge_walk` meets its contract: at each turn the way down from here ends where the way down from the root does.
+use mathlib.Core.Path.{refl, sym, ap, _∙_}
+use Rattle.tree.specs.Edge.{edgeEnded}
+use Rattle.tree.proofs.Edges.{Descending, edge-next, edge-end, edge-over}
+use borrow.Author.Needs.{needs}
+use Rattle.tree.proofs.minmax.edge_walk.Statement.{statement}
+use Rattle.tree.proofs.minmax.edge_walk.Tie as tie
+
+abbrev Inv-loop : tie.InvT-loop
+Inv-loop words keys f edge root left₀ reference₀ left reference = Descending f words keys edge root left reference
+
+abbrev μ-loop : tie.MeasureT-loop
+μ-loop words keys f edge root left₀ reference₀ left reference = left
+
+loop-holds : tie.Need-loop-holds Inv-loop μ-loop
+loop-holds c = record { same-answer = refl }
+
+edge-step-requires : tie.Need-edge-step-requires Inv-loop μ-loop
+edge-step-requires c κs = c .before .before .before .before .pre
+
+returns : tie.Need-returns Inv-loop μ-loop
+returns c =
+    let t = c .before .before .before in
+    let e = c .before .enum-told .given .1 in
+    c .edge-ended .ensures ∙ ap edgeEnded e ∙ sym (t .before .before .loop .inv .same-answer ∙ edge-end _ _ _ _ _ _ _ (sym (t .edge-step .ensures) ∙ e))
+
+loop-again : tie.Need-loop-again Inv-loop μ-loop
+loop-again c =
+    let t = c .before .before .before in
+    let e = sym (t .edge-step .ensures) ∙ c .before .s .given .1 in
+    record { same-answer = t .before .before .loop .inv .same-answer ∙ edge-next _ _ _ _ _ _ _ (t .before .loop-test .taken) e }
+
+edge-step-requires-2 : tie.Need-edge-step-requires-2 Inv-loop μ-loop
+edge-step-requires-2 c κs = c .before .before .before .before .pre
+
+returns-2 : tie.Need-returns-2 Inv-loop μ-loop
+returns-2 c =
+    let l = c .before .before in
+    c .edge-ended2 .ensures ∙ ap edgeEnded (c .before .edge-step2 .ensures) ∙ sym (l .before .loop .inv .same-answer ∙ edge-over _ _ _ _ _ _ (l .loop-test .left))
+
+pub edge-walk-spec : {M : Type 1} → statement M
+edge-walk-spec =
+    tie.close
+    (tie.spec
+    Inv-loop
+    μ-loop
+    loop-holds
+    edge-step-requires
+    (λ c. search needs)
+    (λ c. search needs)
+    (λ c κs. search needs)
+    returns
+    (λ c. search needs)
+    (λ c. search needs)
+    loop-again
+    edge-step-requires-2
+    (λ c κs. search needs)
+    returns-2)

@@ -1,0 +1,88 @@
+-- Search and prefix search: the walk from the root, on any words and key bytes.
+use Prim.Native.Nat.{ℕ, zero, suc, _+_, _*_, min}
+use mathlib.Core.List.{List}
+use mathlib.Core.Bool.{Bool}
+use lib.ListN.{length, getD}
+use lib.Dec.{eqb}
+use Rattle.lists.specs.Scan.{choose}
+use Rattle.lists.specs.Compare.{same, begins}
+use Rattle.lists.specs.Part.{between}
+use Rattle.prefix.specs.Match.{matchOf}
+use Rattle.prefix.specs.declared.lookup.PrefixMatchBehavior.{PrefixMatchBehavior}
+use Rattle.prefix.specs.declared.lookup.PrefixMatchBehavior.the-variants.{Pessimistic, Optimistic}
+use Rattle.prefix.specs.declared.lookup.PrefixMatch.{PrefixMatch}
+use Rattle.prefix.specs.declared.lookup.PrefixMatch.the-variants.{On, Off}
+use Rattle.frames.specs.Form.{recordWords}
+use Rattle.records.specs.Own.{prefixAt, childAt}
+use Rattle.frames.specs.Frame.{rootWord}
+use Rattle.frames.specs.Place.{placeAt}
+use Rattle.frames.specs.declared.form.Form.{Form}
+use Rattle.frames.specs.declared.frame.Frame.{Frame}
+use Rattle.tree.specs.Answer.{leafFound}
+use Rattle.tree.specs.Arrive.{arrivalAt, fromRoot}
+use Rattle.tree.specs.declared.answer.Found.{Found}
+use Rattle.tree.specs.declared.answer.Found.the-variants.{Missing, Damaged}
+use Rattle.tree.specs.declared.arrive.Arrival.{Arrival}
+use Rattle.tree.specs.declared.arrive.Arrival.the-variants.{Leaf, Inner, Broken}
+use Rattle.tree.specs.declared.lookup.Aim.{Aim}
+use Rattle.tree.specs.declared.lookup.Aim.the-variants.{Exact, Begin}
+use Rattle.tree.specs.declared.lookup.Step.{Step}
+use Rattle.tree.specs.declared.lookup.Step.the-variants.{Next, Final}
+
+-- ── at a leaf ──
+-- all bytes are compared if any were skipped, else those from the depth on, or from the shorter length where that is less
+abbrev pub compareFrom : ℕ → ℕ → ℕ → PrefixMatchBehavior → ℕ
+compareFrom given len depth Optimistic = 0
+compareFrom given len depth Pessimistic = min depth (min given len)
+
+-- search wants the two equal, prefix search wants the leaf's to begin the given ones
+abbrev pub fits : Aim → List ℕ → List ℕ → Bool
+fits Exact given held = same given held
+fits Begin given held = begins held given
+
+unfoldable pub leafAnswer : List ℕ → List ℕ → List ℕ → Aim → ℕ → ℕ → PrefixMatchBehavior → Found
+leafAnswer rec key tag aim n depth behavior =
+    let from = compareFrom (length tag) (getD rec 1 0) depth behavior in
+    choose (fits aim (between tag from (length tag)) (between key from (getD rec 1 0))) (leafFound n rec) Missing
+
+-- ── at an inner record ──
+-- past the prefix: the child for the next byte
+abbrev pub childStep : ℕ → ℕ → PrefixMatchBehavior → Step
+childStep child depth behavior = choose (eqb child 0) (Final Missing) (Next child depth behavior)
+
+abbrev pub afterMatch : Form → ℕ → List ℕ → List ℕ → PrefixMatch → Step
+afterMatch form kind rec tag (On d behavior) = childStep (childAt form kind rec (getD tag d 0)) (d + 1) behavior
+afterMatch form kind rec tag (Off agreed) = Final Missing
+
+unfoldable pub innerStep : Form → ℕ → List ℕ → List ℕ → ℕ → PrefixMatchBehavior → Step
+innerStep form kind rec tag depth behavior = afterMatch form kind rec tag (matchOf (prefixAt form rec) tag depth behavior)
+
+-- ── the walk ──
+abbrev pub stepFrom : Frame → List ℕ → List ℕ → List ℕ → Aim → ℕ → PrefixMatchBehavior → Arrival → Step
+stepFrom f words keys tag aim depth behavior (Leaf n start) =
+    Final (leafAnswer (between words start (start + 6)) (between keys (n * f .form .limit) (n * f .form .limit + f .form .limit)) tag aim n depth behavior)
+stepFrom f words keys tag aim depth behavior (Inner kind start) =
+    innerStep (f .form) kind (between words start (start + recordWords (f .form) kind)) tag depth behavior
+stepFrom f words keys tag aim depth behavior Broken = Final Damaged
+
+-- either the next reference with its depth or the final answer; with so many inner records left on the path
+unfoldable pub stepOf : Frame → List ℕ → List ℕ → List ℕ → Aim → ℕ → ℕ → ℕ → PrefixMatchBehavior → Step
+stepOf f words keys tag aim left ref depth behavior = stepFrom f words keys tag aim depth behavior (arrivalAt f words keys left (placeAt ref))
+
+abbrev pub endedOf : Step → Found
+endedOf (Next r d s) = Damaged
+endedOf (Final a) = a
+
+unfoldable pub walkOf : Frame → List ℕ → List ℕ → List ℕ → Aim → ℕ → ℕ → ℕ → PrefixMatchBehavior → Found
+walkOf f words keys tag aim zero ref depth behavior = endedOf (stepOf f words keys tag aim 0 ref depth behavior)
+walkOf f words keys tag aim (suc left) ref depth behavior =
+    elim (stepOf f words keys tag aim (suc left) ref depth behavior) [ Next r d s ↦ walkOf f words keys tag aim left r d s | Final a ↦ a ]
+
+abbrev pub findOf : List ℕ → List ℕ → List ℕ → Aim → Found
+findOf words keys tag aim = fromRoot words keys (λ f. walkOf f words keys tag aim (f .form .limit) (rootWord words) 0 Pessimistic)
+
+abbrev pub searchOf : List ℕ → List ℕ → List ℕ → Found
+searchOf words keys tag = findOf words keys tag Exact
+
+abbrev pub prefixSearchOf : List ℕ → List ℕ → List ℕ → Found
+prefixSearchOf words keys tag = findOf words keys tag Begin
