@@ -3,7 +3,8 @@
  * Every call ends and answers on any memory: lend what you have, and read the number.
  *
  *   0  done                                   6  the words or key bytes are damaged
- *   1  no such tag                            8  start: a capacity over 4,096 or a slice of the wrong length
+ *   1  no such tag                            7  scratch is shorter than the five capacities added
+ *                                             8  start: a capacity over 4,096 or a slice of the wrong length
  *                                             9  no leaf in use has this number
  *
  * With any number but 0 the other fields of an answer are 0, and no word and no key byte has changed.
@@ -69,6 +70,10 @@ directory_leaf directory_leaf_facts(const uint32_t *words, size_t word_count, co
 
 /* Where a leaf's tag stands in the key bytes. */
 directory_part directory_leaf_tag(const uint32_t *words, size_t word_count, const uint8_t *keys, size_t key_count, uint32_t leaf);
+
+/* Whether the whole directory is sound: every record, every tag, the list of the leaves and the tag count. Lend a byte of scratch for each record, that is c1
+ * + c2 + c3 + c4 + c5; they are left 0, whatever the answer, and any scratch beyond them is left alone. 0, 6, or 7 with scratch left alone. */
+uint32_t directory_check(const uint32_t *words, size_t word_count, const uint8_t *keys, size_t key_count, uint8_t *scratch, size_t scratch_count);
 
 #ifdef __cplusplus
 }

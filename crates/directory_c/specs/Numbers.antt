@@ -11,6 +11,7 @@ use Rattle.tree.specs.Answer.{foundNumber, foundLeaf, foundTotal, factsNumber, 
 use Rattle.tree.specs.Leaf.{tagOf}
 use Rattle.tree.specs.declared.answer.Found.{Found}
 use Rattle.tree.specs.declared.answer.Facts.{Facts}
+use Rattle.whole.specs.Check.{Answer, numberOf}
 use Rattle.directory_c.specs.declared.DirectoryFound.{DirectoryFound}
 use Rattle.directory_c.specs.declared.DirectoryLeaf.{DirectoryLeaf}
 use Rattle.directory_c.specs.declared.DirectoryPart.{DirectoryPart}
@@ -46,3 +47,14 @@ started n w k = record { number = n; words = w; keys = k }
 
 abbrev pub startedOf : Out → DirectoryStarted
 startedOf o = started (startNumber (o .answer)) (o .words) (o .keys)
+
+-- what the check gives back, and scratch as it leaves it
+pub record DirectoryChecked : Type 0 where
+  pub number : ℕ
+  pub scratch : List ℕ
+
+abbrev pub checked : ℕ → List ℕ → DirectoryChecked
+checked n s = record { number = n; scratch = s }
+
+abbrev pub checkedOf : Answer → DirectoryChecked
+checkedOf a = checked (numberOf (a .result)) (a .scratch)

@@ -4,12 +4,14 @@ ghost use Rattle.pools.specs.Start.{startNumber, startOf};
 ghost use Rattle.tree.specs.Walk.{searchOf, prefixSearchOf};
 ghost use Rattle.tree.specs.Edge.{minimumOf, maximumOf};
 ghost use Rattle.tree.specs.Leaf.{nextLeafOf, factsOf};
-ghost use Rattle.directory_c.specs.Numbers.{started, startedOf, capsOf, foundOf, leafOf, tagStart, partOf};
+ghost use Rattle.whole.specs.Check.{numberOf, checkOf};
+ghost use Rattle.directory_c.specs.Numbers.{started, startedOf, capsOf, foundOf, leafOf, tagStart, partOf, checked, checkedOf};
 use frames::frame;
 use frames::frame::Caps;
 use pools::start::Started;
 use tree::answer::Facts;
 use tree::answer::Found;
+use whole::check::Checked;
 
 // A leaf's number and total, and the number given back.
 #[repr(C)]
@@ -183,4 +185,21 @@ pub extern "C" fn directory_leaf_tag(words: &[u32], keys: &[u8], leaf: u32) -> D
         start: tag_start(words, keys, leaf),
         length: n as u64,
     }
+}
+
+fn check_number(c: Checked) -> u32
+    ensures { λ r. ⌜ r ≡ numberOf c ⌝ }
+{
+    match c {
+        Checked::Sound => 0,
+        Checked::Damaged => 6,
+        Checked::ShortScratch => 7,
+    }
+}
+
+#[no_mangle]
+pub extern "C" fn directory_check(words: &[u32], keys: &[u8], scratch: &mut [u8]) -> u32
+    ensures { λ r. ⌜ checked r (now (scratch .exit)) ≡ checkedOf (checkOf (now (words .entry)) (now (keys .entry)) (now (scratch .entry))) ⌝ }
+{
+    check_number(whole::check::check(words, keys, scratch))
 }

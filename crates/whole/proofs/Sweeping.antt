@@ -1,0 +1,105 @@
+-- Blank records, and the sweep over a pool.
+use Prim.Native.Nat.{ℕ, zero, suc, _+_, _-_, _*_, _/_, _%_, _≤_, _<_}
+use mathlib.Core.Path.{_≡_, refl, sym, ap, subst, _∙_}
+use mathlib.Core.List.{List}
+use mathlib.Core.Bool.{Bool, true, false, _&&_, and-false}
+use native.Mathlib.Omega.{arith}
+use native.Mathlib.Numerals.{add-one}
+use native.Mathlib.Decide.{ℕ-discrete}
+use lib.ListN.{getD}
+use lib.Dec.{ltb}
+use borrow.Author.Tests.{lt-ltb}
+use Rattle.lists.specs.Scan.{choose, all, atMost}
+use Rattle.lists.specs.Part.{between}
+use Rattle.lists.proofs.Tests.{both, and-both}
+use Rattle.frames.specs.Form.{recordWords}
+use Rattle.frames.specs.Frame.{FrameOf}
+use Rattle.frames.specs.Place.{placeAt, inPool, startAt, keyAt}
+use Rattle.frames.proofs.Frames.{framed}
+use Rattle.frames.proofs.Places.{pool-by}
+use Rattle.frames.specs.declared.frame.Frame.{Frame}
+use Rattle.records.specs.View.{blankAt}
+use Rattle.art.specs.Stores.{Place, leaf-place, inner-place}
+use Rattle.whole.specs.Marks.{markAt, unmarked}
+use Rattle.whole.specs.Sweep.{allUnder, sweptAt, sweptPool, swept}
+
+-- ---- a blank record, by its place and first word
+module _ (f : Frame) (words keys : List ℕ) (x : Place) (start : ℕ) (s : start ≡ startAt f x) where
+  pub blank-leaf : (n : ℕ) → x ≡ leaf-place n → {a b : Bool} → a ≡ all (atMost 0) (between words start (start + 6)) → b ≡ all (atMost 0) (keyAt f keys n) → a && b ≡ blankAt f words keys x
+  blank-leaf n e {a} {b} p q =
+      ap (λ (t : Bool). t && b) p
+      ∙ ap (λ (t : Bool). all (atMost 0) (between words start (start + 6)) && t) q
+      ∙ ap (λ (i : ℕ). all (atMost 0) (between words i (i + 6)) && all (atMost 0) (keyAt f keys n)) (s ∙ ap (startAt f) e)
+      ∙ ap (blankAt f words keys) (sym e)
+
+  pub blank-inner : (k n : ℕ) → x ≡ inner-place k n → {a : Bool} {z : ℕ} → z ≡ recordWords (f .form) k → a ≡ all (atMost 0) (between words start (start + z)) → a ≡ blankAt f words keys x
+  blank-inner k n e {a} {z} h p =
+      p
+      ∙ ap (λ (i : ℕ). all (atMost 0) (between words start (start + i))) h
+      ∙ ap (λ (i : ℕ). all (atMost 0) (between words i (i + recordWords (f .form) k))) (s ∙ ap (startAt f) e)
+      ∙ ap (blankAt f words keys) (sym e)
+
+-- ---- each number below
+pub under-next : (n : ℕ) (p : ℕ → Bool) → allUnder n p ≡ true → p n ≡ true → allUnder (n + 1) p ≡ true
+under-next n p a b = ap (λ (k : ℕ). allUnder k p) (add-one n) ∙ ap (λ (t : Bool). t && p n) a ∙ b
+
+pub under-fails : (n i : ℕ) (p : ℕ → Bool) → i < n → p i ≡ false → allUnder n p ≡ false
+under-fails zero i p h e = absurd (omega arith)
+under-fails (suc n) i p h e = go (ℕ-discrete i n) (λ k. under-fails n i p k e)
+  where
+    go : Dec (i ≡ n) → (i < n → allUnder n p ≡ false) → allUnder n p && p n ≡ false
+    go (yes q) ih = ap (λ (b : Bool). allUnder n p && b) (ap p (sym q) ∙ e) ∙ and-false (allUnder n p)
+    go (no q) ih = ap (λ (b : Bool). b && p n) (ih (omega arith))
+
+pub under-at : (n : ℕ) (p : ℕ → Bool) → allUnder n p ≡ true → (i : ℕ) → i < n → p i ≡ true
+under-at zero p e i h = absurd (omega arith)
+under-at (suc n) p e i h = go (ℕ-discrete i n) (both (allUnder n p) (p n) e) (λ a k. under-at n p a i k)
+  where
+    go : Dec (i ≡ n) → (allUnder n p ≡ true) × (p n ≡ true) → (allUnder n p ≡ true → i < n → p i ≡ true) → p i ≡ true
+    go (yes q) b ih = ap p q ∙ b .1
+    go (no q) b ih = ih (b .0) (omega arith)
+
+pub under-by : (n : ℕ) (p : ℕ → Bool) → ((i : ℕ) → i < n → p i ≡ true) → allUnder n p ≡ true
+under-by zero p h = refl
+under-by (suc n) p h = and-both (under-by n p (λ i k. h i (omega arith))) (h n (omega arith))
+
+-- ---- a record was reached, or is blank
+module _ (f : Frame) (words keys m : List ℕ) (x : Place) where
+  pub swept-new : {b : Bool} → unmarked (markAt f x) m ≡ true → b ≡ blankAt f words keys x → b ≡ sweptAt f words keys m x
+  unfolding sweptAt
+  swept-new e h = h ∙ ap (λ (t : Bool). choose t (blankAt f words keys x) true) (sym e)
+
+  pub swept-old : unmarked (markAt f x) m ≡ false → true ≡ sweptAt f words keys m x
+  unfolding sweptAt
+  swept-old e = ap (λ (t : Bool). choose t (blankAt f words keys x) true) (sym e)
+
+-- ---- a pool
+module _ {f : Frame} {words keys : List ℕ} (w : FrameOf f words keys) where
+  -- the places of a pool
+  pub pool-place : (k i : ℕ) → k ≤ 5 → i < getD (f .caps) k 0 → inPool f (placeAt (i * 8 + k)) ≡ true
+  pool-place k i h l =
+      let a : (i * 8 + k) % 8 ≡ k = omega arith in
+      let b : (i * 8 + k) / 8 ≡ i = omega arith in
+      sym (pool-by f (i * 8 + k) (framed w))
+      ∙ ap (λ (x : ℕ). ltb x (getD (f .caps) ((i * 8 + k) % 8) 0)) b
+      ∙ ap (λ (x : ℕ). ltb i (getD (f .caps) x 0)) a
+      ∙ lt-ltb i (getD (f .caps) k 0) l
+
+module _ (f : Frame) (words keys m : List ℕ) (k i : ℕ) where
+  pub pool-fails : i < getD (f .caps) k 0 → sweptAt f words keys m (placeAt (i * 8 + k)) ≡ false → false ≡ sweptPool f words keys m k
+  unfolding sweptPool
+  pool-fails h e = sym (under-fails (getD (f .caps) k 0) i (λ n. sweptAt f words keys m (placeAt (n * 8 + k))) h e)
+
+  pub pool-next : allUnder i (λ n. sweptAt f words keys m (placeAt (n * 8 + k))) ≡ true → sweptAt f words keys m (placeAt (i * 8 + k)) ≡ true
+      → allUnder (i + 1) (λ n. sweptAt f words keys m (placeAt (n * 8 + k))) ≡ true
+  pool-next a e = under-next i (λ n. sweptAt f words keys m (placeAt (n * 8 + k))) a e
+
+  pub pool-end : i ≡ getD (f .caps) k 0 → allUnder i (λ n. sweptAt f words keys m (placeAt (n * 8 + k))) ≡ true → true ≡ sweptPool f words keys m k
+  unfolding sweptPool
+  pool-end e a = sym a ∙ ap (λ (n : ℕ). allUnder n (λ n. sweptAt f words keys m (placeAt (n * 8 + k)))) e
+
+-- all five
+pub swept-by : (f : Frame) (words keys m : List ℕ) {a b c d e : Bool} → a ≡ sweptPool f words keys m 1 → b ≡ sweptPool f words keys m 2 → c ≡ sweptPool f words keys m 3
+    → d ≡ sweptPool f words keys m 4 → e ≡ sweptPool f words keys m 5 → a && b && c && d && e ≡ swept f words keys m
+unfolding swept
+swept-by f words keys m p q r s t = rw (p, q, r, s, t)

@@ -1,0 +1,396 @@
+-- The cases of the definition that goes by turns from a record to its row, in the code's numbers; what is handed up is a leaf that was seen, and no more leaves are counted than
+-- records are marked.
+use Prim.Native.Nat.{ℕ, zero, suc, _+_, _-_, _*_, _/_, _%_, _≤_, _<_}
+use mathlib.Core.Path.{_≡_, refl, sym, ap, subst, _∙_}
+use mathlib.Core.List.{List, [], _∷_}
+use mathlib.Core.Bool.{Bool, true, false, _&&_}
+use native.Mathlib.Omega.{arith}
+use lib.ListN.{length, getD}
+use lib.Dec.{eqb, leb, ltb}
+use borrow.Author.Tests.{eq-eqb, ne-eqb, eqb-true, eqb-false, leb-true, leb-false, ltb-true, le-leb, lt-leb}
+use Rattle.lists.specs.Scan.{choose, count, nonzero}
+use Rattle.lists.specs.Part.{between}
+use Rattle.lists.proofs.Tests.{both}
+use Rattle.frames.specs.Frame.{trailerOf, frameOf, FrameOf}
+use Rattle.frames.specs.Form.{formOf}
+use Rattle.frames.specs.Place.{placeAt, inPool, startAt}
+use Rattle.frames.specs.declared.frame.Frame.{Frame}
+use Rattle.frames.proofs.Frames.{totals, formAt}
+use Rattle.frames.proofs.FormTable.{form-rules}
+use Rattle.records.specs.View.{ruleAt}
+use Rattle.records.specs.Row.{entryFrom}
+use Rattle.records.specs.declared.representation.Entry.{Entry}
+use Rattle.records.specs.declared.representation.Entry.the-variants.{Child, Nothing}
+use Rattle.records.proofs.Owns.{inner-rule}
+use Rattle.records.proofs.RowRules.{Climbs, climbs-lower, row-rule}
+use Rattle.art.specs.Stores.{Place, leaf-place, inner-place}
+use Rattle.tree.specs.Arrive.{arrivalAt, arrived, onPath, InnerThere}
+use Rattle.whole.specs.Arrive.{There, innerRec}
+use Rattle.whole.specs.Marks.{fresh, reached}
+use Rattle.whole.specs.Witness.{LeafSeen, WitnessSeen, tagAt, goesOn, storedAgrees}
+use Rattle.whole.specs.Visit.{Way, way, leafVisit, turnOf, turnAt, doneOf, firstOf, rowEnd, childEnd, onward, recordEnd, rowBy, rowFrom, rowOf, afterTurn, recordWith, recordBy, rowWay, Sees, Counted}
+use Rattle.tree.specs.declared.arrive.Arrival.{Arrival}
+use Rattle.tree.specs.declared.arrive.Arrival.the-variants.{Leaf, Inner, Broken}
+use Rattle.whole.specs.declared.well_formed.Seen.{Seen}
+use Rattle.whole.specs.declared.well_formed.Row.{Row}
+use Rattle.whole.specs.declared.well_formed.Turn.{Turn}
+use Rattle.whole.specs.declared.well_formed.Turn.the-variants.{Branch, Done}
+use Rattle.whole.specs.declared.well_formed.Visit.{Visit}
+use Rattle.whole.specs.declared.well_formed.Visit.the-variants.{Well, Ill}
+use Rattle.whole.proofs.Marking.{reached-count, reached-more, fresh-parts}
+use Rattle.whole.proofs.Arrivals.{there}
+use Rattle.whole.proofs.Turns.{first-seen}
+
+-- ---- what is done at a record
+module _ (f : Frame) (words keys : List ℕ) (left ref depth : ℕ) (m : List ℕ) (s : Seen) where
+  pub turn-old : fresh f ref m ≡ false → Done Ill ≡ turnAt f words keys left ref depth m s
+  unfolding turnAt
+  turn-old e = ap (λ (b : Bool). choose b (turnOf f words ref depth s (arrivalAt f words keys left (placeAt ref))) (Done Ill)) (sym e)
+
+  pub turn-new : {a : Arrival} {t : Turn} → fresh f ref m ≡ true → a ≡ arrivalAt f words keys left (placeAt ref) → t ≡ turnOf f words ref depth s a → t ≡ turnAt f words keys left ref depth m s
+  unfolding turnAt
+  turn-new e h t =
+      t ∙ ap (turnOf f words ref depth s) h
+      ∙ ap (λ (b : Bool). choose b (turnOf f words ref depth s (arrivalAt f words keys left (placeAt ref))) (Done Ill)) (sym e)
+
+-- ---- where a record branches
+-- the limit of a fitting frame's form is small
+pub limit-small : {f : Frame} {words keys : List ℕ} → FrameOf f words keys → f .form .limit ≤ 128
+unfolding frameOf
+limit-small {f} {words} {keys} w =
+    subst (λ (g : Frame). g .form .limit ≤ 128) (sym (w .read)) (form-rules (getD (trailerOf words) 0 0) (totals words keys (w .fits) .known) .limit)
+
+pub record Branches (f : Frame) (words : List ℕ) (left depth : ℕ) (row : Row) : Type 0 where
+  pub some : 0 < left
+  pub there : InnerThere (f .form) words (row .kind) (row .start)
+  pub shallow : row .depth ≤ depth + 128
+
+module _ {f : Frame} {words keys : List ℕ} (w : FrameOf f words keys) (left ref depth : ℕ) (m : List ℕ) (s : Seen) where
+  abbrev BranchesTo : Turn → Type 0
+  BranchesTo (Branch row) = Branches f words left depth row
+  BranchesTo (Done v) = Unit {0}
+
+  branch-inner : (k start : ℕ) → InnerThere (f .form) words k start → 0 < left → BranchesTo (turnOf f words ref depth s (Inner k start))
+  branch-inner k start h z =
+      record {
+        some = z;
+        there = h;
+        shallow = omega (arith, inner-rule (f .form) k (innerRec (f .form) words k start) (h .fits .ok) .head .short, limit-small w);
+      }
+
+  inner-picked : (x : Place) (b : Bool) (k start : ℕ) → inPool f x && (ruleAt f words keys x && onPath left x) ≡ b → choose b (arrived f x) Broken ≡ Inner k start → 0 < left
+  inner-picked (leaf-place n) true k start e q = absurd (let z : _≡_ {A = ℕ} 0 1 = cc in omega arith)
+  inner-picked (inner-place j n) true k start e q =
+      let p = both (inPool f (inner-place j n)) (ruleAt f words keys (inner-place j n) && ltb 0 left) e in
+      ltb-true 0 left (both (ruleAt f words keys (inner-place j n)) (ltb 0 left) (p .1) .1)
+  inner-picked x false k start e q = absurd (let z : _≡_ {A = ℕ} 0 1 = cc in omega arith)
+
+  inner-left : (x : Place) (k start : ℕ) → arrivalAt f words keys left x ≡ Inner k start → 0 < left
+  unfolding arrivalAt
+  inner-left x k start q = inner-picked x (inPool f x && (ruleAt f words keys x && onPath left x)) k start refl q
+
+  branch-of : (a : Arrival) → arrivalAt f words keys left (placeAt ref) ≡ a → There f words a → BranchesTo (turnOf f words ref depth s a)
+  branch-of (Leaf n start) e h = tt
+  branch-of (Inner k start) e h = branch-inner k start h (inner-left (placeAt ref) k start e)
+  branch-of Broken e h = tt
+
+  branch-at : (b : Bool) → BranchesTo (choose b (turnOf f words ref depth s (arrivalAt f words keys left (placeAt ref))) (Done Ill))
+  branch-at true = branch-of (arrivalAt f words keys left (placeAt ref)) refl (there w left (placeAt ref))
+  branch-at false = tt
+
+  pub branches : (row : Row) → turnAt f words keys left ref depth m s ≡ Branch row → Branches f words left depth row
+  unfolding turnAt
+  branches row e = subst BranchesTo e (branch-at (fresh f ref m))
+
+-- ---- a row from a byte on
+abbrev pick : Bool → List (ℕ × ℕ) → List (ℕ × ℕ) → List (ℕ × ℕ)
+pick b x y = elim b [ true ↦ x | false ↦ y ]
+
+pub from-all : (lo b : ℕ) (cs : List (ℕ × ℕ)) → Climbs lo cs → b ≤ lo → rowFrom b cs ≡ cs
+from-all lo b [] h l = refl
+from-all lo b (c ∷ cs) h l = ap (λ (t : Bool). pick t (c ∷ cs) (rowFrom b cs)) (le-leb b (c .0) (omega (arith, h .0 .low)))
+
+-- what stands first from a byte on, and the rest
+pub record Starts (b : ℕ) (cs : List (ℕ × ℕ)) (x r : ℕ) : Type 0 where
+  pub low : b ≤ x
+  pub byte : x < 256
+  pub parts : rowFrom b cs ≡ (x, r) ∷ rowFrom (x + 1) cs
+
+abbrev StartsAt : ℕ → List (ℕ × ℕ) → Entry → Type 0
+StartsAt b cs (Child x r) = Starts b cs x r
+StartsAt b cs Nothing = rowFrom b cs ≡ []
+
+abbrev pickEntry : Bool → Entry → Entry → Entry
+pickEntry b x y = elim b [ true ↦ x | false ↦ y ]
+
+skip-starts : (b : ℕ) (c : ℕ × ℕ) (cs : List (ℕ × ℕ)) (en : Entry) → c .0 < b → StartsAt b cs en → StartsAt b (c ∷ cs) en
+skip-starts b c cs (Child x r) l h =
+    record {
+      low = h .low;
+      byte = h .byte;
+      parts =
+          ap (λ (t : Bool). pick t (c ∷ cs) (rowFrom b cs)) (lt-leb b (c .0) l)
+          ∙ h .parts
+          ∙ ap (λ (t : List (ℕ × ℕ)). (x, r) ∷ t) (ap (λ (t : Bool). pick t (c ∷ cs) (rowFrom (x + 1) cs)) (sym (lt-leb (x + 1) (c .0) (omega (arith, h .low)))));
+    }
+skip-starts b c cs Nothing l h = ap (λ (t : Bool). pick t (c ∷ cs) (rowFrom b cs)) (lt-leb b (c .0) l) ∙ h
+
+here-starts : (lo b : ℕ) (c : ℕ × ℕ) (cs : List (ℕ × ℕ)) → Climbs lo (c ∷ cs) → b ≤ c .0 → Starts b (c ∷ cs) (c .0) (c .1)
+here-starts lo b c cs h l =
+    record {
+      low = l;
+      byte = h .0 .byte;
+      parts =
+          ap (λ (t : Bool). pick t (c ∷ cs) (rowFrom b cs)) (le-leb b (c .0) l)
+          ∙ ap (λ (t : List (ℕ × ℕ)). (c .0, c .1) ∷ t)
+          (sym
+          (ap (λ (t : Bool). pick t (c ∷ cs) (rowFrom (c .0 + 1) cs)) (lt-leb (c .0 + 1) (c .0) (omega arith))
+          ∙ from-all (suc (c .0)) (c .0 + 1) cs (h .1) (omega arith)));
+    }
+
+starts-at : (lo b : ℕ) (cs : List (ℕ × ℕ)) → Climbs lo cs → StartsAt b cs (entryFrom b cs)
+starts-at lo b [] h = refl
+starts-at lo b (c ∷ cs) h = go (leb b (c .0)) refl (starts-at (suc (c .0)) b cs (h .1))
+  where
+    go : (t : Bool) → leb b (c .0) ≡ t → StartsAt b cs (entryFrom b cs) → StartsAt b (c ∷ cs) (pickEntry t (Child (c .0) (c .1)) (entryFrom b cs))
+    go true e ih = here-starts lo b c cs h (leb-true b (c .0) e)
+    go false e ih = skip-starts b c cs (entryFrom b cs) (leb-false b (c .0) e) ih
+
+module _ (f : Frame) (words : List ℕ) (row : Row) (h : InnerThere (f .form) words (row .kind) (row .start)) (b : ℕ) where
+  pub row-starts : (x r : ℕ) → entryFrom b (rowOf f words row) ≡ Child x r → Starts b (rowOf f words row) x r
+  row-starts x r e = subst (StartsAt b (rowOf f words row)) e (starts-at 0 b (rowOf f words row) (row-rule (h .fits) .climbs))
+
+  pub row-ends : entryFrom b (rowOf f words row) ≡ Nothing → rowFrom b (rowOf f words row) ≡ []
+  row-ends e = subst (StartsAt b (rowOf f words row)) e (starts-at 0 b (rowOf f words row) (row-rule (h .fits) .climbs))
+
+  pub row-whole : b ≡ 0 → rowFrom b (rowOf f words row) ≡ rowOf f words row
+  row-whole e = from-all 0 b (rowOf f words row) (row-rule (h .fits) .climbs) (omega arith)
+
+-- ---- the turns of a record
+module _ (f : Frame) (words keys : List ℕ) (left ref depth : ℕ) (m : List ℕ) (s : Seen) where
+  pub record-done : (v : Visit) → turnAt f words keys left ref depth m s ≡ Done v → recordBy f words keys left ref depth m s ≡ way v (reached f ref m)
+  unfolding recordBy
+  record-done v = go left
+    where
+      go : (l : ℕ) → turnAt f words keys l ref depth m s ≡ Done v → recordBy f words keys l ref depth m s ≡ way v (reached f ref m)
+      go zero e = simp e
+      go (suc l) e = simp e
+
+  abbrev ends : Row → Way → Way
+  ends row x = way (recordEnd f words keys row depth (x .visit)) (x .marks)
+
+  pub record-branch : (row : Row) → turnAt f words keys left ref depth m s ≡ Branch row → Branches f words left depth row
+      → recordBy f words keys left ref depth m s
+      ≡ way (recordEnd f words keys row depth (rowWay f words keys (left - 1) row 0 0 (reached f ref m) s .visit)) (rowWay f words keys (left - 1) row 0 0 (reached f ref m) s .marks)
+  unfolding recordBy
+  record-branch row = go left
+    where
+      go : (l : ℕ) → turnAt f words keys l ref depth m s ≡ Branch row → Branches f words l depth row
+          → recordBy f words keys l ref depth m s ≡ ends row (rowWay f words keys (l - 1) row 0 0 (reached f ref m) s)
+      go zero e h = absurd (omega (arith, h .some))
+      go (suc l) e h =
+          let q : suc l - 1 ≡ l = omega arith in
+          ap (λ (t : Turn). afterTurn f words keys (λ row m′. rowBy f words keys (recordBy f words keys l) (row .depth) 0 (rowOf f words row) m′ s) depth t (reached f ref m)) e
+          ∙ ap (λ (cs : List (ℕ × ℕ)). ends row (rowBy f words keys (recordBy f words keys l) (row .depth) 0 cs (reached f ref m) s)) (sym (row-whole f words row (h .there) 0 refl))
+          ∙ ap (λ (k : ℕ). ends row (rowWay f words keys k row 0 0 (reached f ref m) s)) (sym q)
+
+-- ---- the turns of a row
+module _ (f : Frame) (words keys : List ℕ) (left : ℕ) (row : Row) (b w : ℕ) (m : List ℕ) (s : Seen) where
+  pub row-end : rowFrom b (rowOf f words row) ≡ [] → rowWay f words keys left row b w m s ≡ way (rowEnd w s) m
+  unfolding rowBy
+  row-end e = ap (λ (cs : List (ℕ × ℕ)). rowBy f words keys (recordBy f words keys left) (row .depth) w cs m s) e
+
+  module _ (x r : ℕ) (e : rowFrom b (rowOf f words row) ≡ (x, r) ∷ rowFrom (x + 1) (rowOf f words row)) where
+    child : Way
+    child = recordBy f words keys left r (row .depth + 1) m s
+
+    row-child : rowWay f words keys left row b w m s
+        ≡ onward (childEnd f words keys (row .depth) x w (recordBy f words keys left r (row .depth + 1) m s .visit)) (recordBy f words keys left r (row .depth + 1) m s .marks)
+        (λ y m′ s′. rowWay f words keys left row (x + 1) y m′ s′)
+    unfolding rowBy
+    row-child = ap (λ (cs : List (ℕ × ℕ)). rowBy f words keys (recordBy f words keys left) (row .depth) w cs m s) e
+
+    pub row-ill : childEnd f words keys (row .depth) x w (recordBy f words keys left r (row .depth + 1) m s .visit) ≡ Ill
+        → rowWay f words keys left row b w m s ≡ way Ill (recordBy f words keys left r (row .depth + 1) m s .marks)
+    row-ill h =
+        row-child
+        ∙ ap (λ (v : Visit). onward v (recordBy f words keys left r (row .depth + 1) m s .marks) (λ y m′ s′. rowWay f words keys left row (x + 1) y m′ s′)) h
+
+    pub row-well : (y : ℕ) (z : Seen) → childEnd f words keys (row .depth) x w (recordBy f words keys left r (row .depth + 1) m s .visit) ≡ Well y z
+        → rowWay f words keys left row b w m s ≡ rowWay f words keys left row (x + 1) y (recordBy f words keys left r (row .depth + 1) m s .marks) z
+    row-well y z h =
+        row-child
+        ∙ ap (λ (v : Visit). onward v (recordBy f words keys left r (row .depth + 1) m s .marks) (λ y m′ s′. rowWay f words keys left row (x + 1) y m′ s′)) h
+
+-- ---- what is handed up
+module _ (f : Frame) (words keys : List ℕ) where
+  abbrev Kept : List ℕ → Visit → Type 0
+  Kept m v = Sees f words keys v × Counted m v
+
+  pub leaf-witness : {w : ℕ} → LeafSeen f words keys w → WitnessSeen f words keys w
+  leaf-witness l = record { seen = λ e. l }
+
+  pub no-witness : WitnessSeen f words keys 0
+  no-witness = record { seen = λ e. absurd (e refl) }
+
+  -- a leaf that is arrived at was seen
+  leaf-picked : (left ref n start : ℕ) (b : Bool) → eqb (ref % 8) 5 ≡ b → (x : Place) → x ≡ choose b (leaf-place (ref / 8)) (inner-place (ref % 8) (ref / 8)) → (t : Bool)
+      → inPool f x && (ruleAt f words keys x && onPath left x) ≡ t → choose t (arrived f x) Broken ≡ Leaf n start → LeafSeen f words keys ref
+  leaf-picked left ref n start b k x p false q a = absurd (let z : _≡_ {A = ℕ} 0 1 = cc in omega arith)
+  leaf-picked left ref n start true k x p true q a =
+      let u = both (inPool f x) (ruleAt f words keys x && onPath left x) q in
+      record { kind = eqb-true _ _ k; pool = ap (inPool f) (sym p) ∙ u .0; rule = ap (ruleAt f words keys) (sym p) ∙ both (ruleAt f words keys x) (onPath left x) (u .1) .0 }
+  leaf-picked left ref n start false k x p true q a =
+      let z : _≡_ {A = Arrival} (arrived f (inner-place (ref % 8) (ref / 8))) (Leaf n start) = ap (arrived f) (sym p) ∙ a in
+      absurd (let y : _≡_ {A = ℕ} 0 1 = cc in omega arith)
+
+  pub leaf-arrived : (left ref n start : ℕ) → arrivalAt f words keys left (placeAt ref) ≡ Leaf n start → LeafSeen f words keys ref
+  unfolding arrivalAt
+  leaf-arrived left ref n start e =
+      leaf-picked left ref n start (eqb (ref % 8) 5) refl (placeAt ref) refl (inPool f (placeAt ref) && (ruleAt f words keys (placeAt ref) && onPath left (placeAt ref))) refl e
+
+  -- and is one more, where it follows
+  leaf-kept : (left ref : ℕ) (rec m : List ℕ) (s : Seen) (n start : ℕ) → arrivalAt f words keys left (placeAt ref) ≡ Leaf n start → fresh f ref m ≡ true → s .count ≤ count nonzero m
+      → Kept (reached f ref m) (leafVisit rec ref s)
+  unfolding leafVisit
+  leaf-kept left ref rec m s n start e fr c = go (eqb (getD rec 2 0) (s .prev) && eqb (s .next) ref)
+    where
+      go : (b : Bool) → Kept (reached f ref m) (choose b (Well ref (record { prev = ref; next = getD rec 3 0; count = s .count + 1 })) Ill)
+      go true = (leaf-arrived left ref n start e, omega (arith, reached-count f ref m fr))
+      go false = (tt, tt)
+
+  child-kept : (e byte w : ℕ) (m : List ℕ) (v : Visit) → WitnessSeen f words keys w → Kept m v → Kept m (childEnd f words keys e byte w v)
+  child-kept e byte w m (Well t s) h k = go (goesOn e (tagAt f words keys (firstOf w t)) byte (tagAt f words keys t))
+    where
+      go : (b : Bool) → Kept m (choose b (Well (firstOf w t) s) Ill)
+      go true = (first-seen h (k .0) refl, k .1)
+      go false = (tt, tt)
+  child-kept e byte w m Ill h k = (tt, tt)
+
+  end-kept : (row : Row) (depth : ℕ) (m : List ℕ) (v : Visit) → Kept m v → Kept m (recordEnd f words keys row depth v)
+  end-kept row depth m (Well w s) k = go (storedAgrees depth _ (tagAt f words keys w))
+    where
+      go : (b : Bool) → Kept m (choose b (Well w s) Ill)
+      go true = k
+      go false = (tt, tt)
+  end-kept row depth m Ill k = (tt, tt)
+
+  rows-kept : (w : ℕ) (m : List ℕ) (s : Seen) → WitnessSeen f words keys w → s .count ≤ count nonzero m → Kept m (rowEnd w s)
+  unfolding rowEnd
+  rows-kept w m s h c = go (eqb w 0) refl
+    where
+      go : (b : Bool) → eqb w 0 ≡ b → Kept m (choose b Ill (Well w s))
+      go true e = (tt, tt)
+      go false e = (h .seen (eqb-false w 0 e), c)
+
+  abbrev KeptBy : (ℕ → ℕ → List ℕ → Seen → Way) → Type 0
+  KeptBy g = (ref depth : ℕ) (m : List ℕ) (s : Seen) → s .count ≤ count nonzero m → Kept (g ref depth m s .marks) (g ref depth m s .visit)
+
+  on-kept : (v : Visit) (m : List ℕ) (go : ℕ → List ℕ → Seen → Way) → Kept m v
+      → ((w : ℕ) (s : Seen) → WitnessSeen f words keys w → s .count ≤ count nonzero m → Kept (go w m s .marks) (go w m s .visit)) → Kept (onward v m go .marks) (onward v m go .visit)
+  on-kept (Well w s) m go k h = h w s (leaf-witness (k .0)) (k .1)
+  on-kept Ill m go k h = (tt, tt)
+
+  pub row-kept : (g : ℕ → ℕ → List ℕ → Seen → Way) → KeptBy g → (e w : ℕ) (cs : List (ℕ × ℕ)) (m : List ℕ) (s : Seen) → WitnessSeen f words keys w → s .count ≤ count nonzero m
+      → Kept (rowBy f words keys g e w cs m s .marks) (rowBy f words keys g e w cs m s .visit)
+  unfolding rowBy
+  row-kept g k e w [] m s h c = rows-kept w m s h c
+  row-kept g k e w (x ∷ cs) m s h c =
+      let y : Way = g (x .1) (e + 1) m s in
+      on-kept (childEnd f words keys e (x .0) w (y .visit)) (y .marks) (λ t m′ s′. rowBy f words keys g e t cs m′ s′) (child-kept e (x .0) w (y .marks) (y .visit) h (k (x .1) (e + 1) m s c))
+      (λ t s′ h′ c′. row-kept g k e t cs (y .marks) s′ h′ c′)
+
+  turn-kept : (left ref depth : ℕ) (m : List ℕ) (s : Seen) (check : Row → List ℕ → Way) → ((row : Row) → Kept (check row (reached f ref m) .marks) (check row (reached f ref m) .visit))
+      → s .count ≤ count nonzero m
+      → Kept (afterTurn f words keys check depth (turnAt f words keys left ref depth m s) (reached f ref m) .marks) (afterTurn f words keys check depth (turnAt f words keys left ref depth m s) (reached f ref m) .visit)
+  unfolding turnAt
+  turn-kept left ref depth m s check k c = go (fresh f ref m) refl (arrivalAt f words keys left (placeAt ref)) refl
+    where
+      go : (b : Bool) → fresh f ref m ≡ b → (a : Arrival) → arrivalAt f words keys left (placeAt ref) ≡ a
+          → Kept (afterTurn f words keys check depth (choose b (turnOf f words ref depth s a) (Done Ill)) (reached f ref m) .marks)
+          (afterTurn f words keys check depth (choose b (turnOf f words ref depth s a) (Done Ill)) (reached f ref m) .visit)
+      go false e a q = (tt, tt)
+      go true e (Leaf n start) q = leaf-kept left ref (between words start (start + 6)) m s n start q e c
+      go true e (Inner kind start) q =
+          let row : Row = record { kind = kind; start = start; depth = depth + getD (innerRec (f .form) words kind start) 2 0 } in
+          end-kept row depth (check row (reached f ref m) .marks) (check row (reached f ref m) .visit) (k row)
+      go true e Broken q = (tt, tt)
+
+  pub record-kept : (left : ℕ) → KeptBy (recordBy f words keys left)
+  unfolding recordBy
+  record-kept zero ref depth m s c =
+      turn-kept 0 ref depth m s (λ row m′. rowBy f words keys (λ ref depth m s. way Ill m) (row .depth) 0 (rowOf f words row) m′ s)
+      (λ row. row-kept (λ ref depth m s. way Ill m) (λ ref depth m s c. (tt, tt)) (row .depth) 0 (rowOf f words row) (reached f ref m) s no-witness (omega (arith, reached-more f ref m))) c
+  record-kept (suc left) ref depth m s c =
+      turn-kept (suc left) ref depth m s (λ row m′. rowBy f words keys (recordBy f words keys left) (row .depth) 0 (rowOf f words row) m′ s)
+      (λ row. row-kept (recordBy f words keys left) (record-kept left) (row .depth) 0 (rowOf f words row) (reached f ref m) s no-witness (omega (arith, reached-more f ref m))) c
+
+-- ---- the turns, by what the calls gave
+module _ {f : Frame} {words keys : List ℕ} (fr : FrameOf f words keys) (left ref depth : ℕ) (m : List ℕ) (s : Seen) {t : Turn} (te : t ≡ turnAt f words keys left ref depth m s)
+    {m′ : List ℕ} (me : m′ ≡ reached f ref m) where
+  pub record-stops : {r v : Visit} → t ≡ Done v → r ≡ doneOf t → (r ≡ recordBy f words keys left ref depth m s .visit) × (m′ ≡ recordBy f words keys left ref depth m s .marks)
+  record-stops {r} {v} e h =
+      let q = record-done f words keys left ref depth m s v (sym te ∙ e) in
+      (h ∙ ap doneOf e ∙ sym (ap (λ (x : Way). x .visit) q), me ∙ sym (ap (λ (x : Way). x .marks) q))
+
+  module _ {row : Row} (e : t ≡ Branch row) where
+    pub branch-here : Branches f words left depth row
+    branch-here = branches fr left ref depth m s row (sym te ∙ e)
+
+    pub record-counted : s .count ≤ count nonzero m → s .count ≤ count nonzero m′
+    record-counted c = omega (arith, ap (count nonzero) me, reached-more f ref m)
+
+    module _ {v : Visit} {mr : List ℕ} (ve : v ≡ rowWay f words keys (left - 1) row 0 0 m′ s .visit) (re : mr ≡ rowWay f words keys (left - 1) row 0 0 m′ s .marks) where
+      pub row-sees : s .count ≤ count nonzero m → Sees f words keys v
+      row-sees c =
+          subst (Sees f words keys) (sym ve)
+          (row-kept f words keys (recordBy f words keys (left - 1)) (record-kept f words keys (left - 1)) (row .depth) 0 (rowFrom 0 (rowOf f words row)) m′ s (no-witness f words keys) (record-counted c) .0)
+
+      pub record-closes : {r : Visit} → r ≡ recordEnd f words keys row depth v → (r ≡ recordBy f words keys left ref depth m s .visit) × (mr ≡ recordBy f words keys left ref depth m s .marks)
+      record-closes {r} h =
+          let q = record-branch f words keys left ref depth m s row (sym te ∙ e) branch-here in
+          let at : rowWay f words keys (left - 1) row 0 0 m′ s ≡ rowWay f words keys (left - 1) row 0 0 (reached f ref m) s =
+          ap (λ (x : List ℕ). rowWay f words keys (left - 1) row 0 0 x s) me in (
+            h ∙ ap (recordEnd f words keys row depth) (ve ∙ ap (λ (x : Way). x .visit) at) ∙ sym (ap (λ (x : Way). x .visit) q),
+            re ∙ ap (λ (x : Way). x .marks) at ∙ sym (ap (λ (x : Way). x .marks) q),
+          )
+
+module _ {f : Frame} {words keys : List ℕ} (fr : FrameOf f words keys) (left : ℕ) (row : Row) (b w : ℕ) (m : List ℕ) (s : Seen) (there : InnerThere (f .form) words (row .kind) (row .start)) {c : Entry}
+    (ce : c ≡ entryFrom b (rowOf f words row)) where
+  pub row-stops : {r : Visit} → c ≡ Nothing → r ≡ rowEnd w s → (r ≡ rowWay f words keys left row b w m s .visit) × (m ≡ rowWay f words keys left row b w m s .marks)
+  row-stops {r} e h =
+      let q = row-end f words keys left row b w m s (row-ends f words row there b (sym ce ∙ e)) in
+      (h ∙ sym (ap (λ (x : Way). x .visit) q), sym (ap (λ (x : Way). x .marks) q))
+
+  module _ {x r : ℕ} (e : c ≡ Child x r) where
+    pub child-starts : Starts b (rowOf f words row) x r
+    child-starts = row-starts f words row there b x r (sym ce ∙ e)
+
+    module _ {v : Visit} {m′ : List ℕ} (ve : v ≡ recordBy f words keys left r (row .depth + 1) m s .visit) (me : m′ ≡ recordBy f words keys left r (row .depth + 1) m s .marks) where
+      pub child-sees : s .count ≤ count nonzero m → Sees f words keys v × Counted m′ v
+      child-sees h =
+          let k = record-kept f words keys left r (row .depth + 1) m s h in
+          (subst (Sees f words keys) (sym ve) (k .0), subst (λ (l : List ℕ). Counted l v) (sym me) (subst (Counted (recordBy f words keys left r (row .depth + 1) m s .marks)) (sym ve) (k .1)))
+
+      module _ {y : Visit} (ye : y ≡ childEnd f words keys (row .depth) x w v) where
+        ended : childEnd f words keys (row .depth) x w (recordBy f words keys left r (row .depth + 1) m s .visit) ≡ y
+        ended = ap (childEnd f words keys (row .depth) x w) (sym ve) ∙ sym ye
+
+        pub row-breaks : y ≡ Ill → (Ill ≡ rowWay f words keys left row b w m s .visit) × (m′ ≡ rowWay f words keys left row b w m s .marks)
+        row-breaks i =
+            let q = row-ill f words keys left row b w m s x r (child-starts .parts) (ended ∙ i) in
+            (sym (ap (λ (x : Way). x .visit) q), me ∙ sym (ap (λ (x : Way). x .marks) q))
+
+        module _ {u : ℕ} {z : Seen} (i : y ≡ Well u z) where
+          pub next-kept : WitnessSeen f words keys w → s .count ≤ count nonzero m → WitnessSeen f words keys u × (z .count ≤ count nonzero m′)
+          next-kept h n =
+              let k = child-kept f words keys (row .depth) x w m′ v h (child-sees n) in
+              let j : Kept f words keys m′ (Well u z) = subst (Kept f words keys m′) (sym ye ∙ i) k in
+              (leaf-witness f words keys (j .0), j .1)
+
+          pub row-goes : {p : Visit} {mp : List ℕ} → p ≡ rowWay f words keys left row (x + 1) u m′ z .visit → mp ≡ rowWay f words keys left row (x + 1) u m′ z .marks
+              → (p ≡ rowWay f words keys left row b w m s .visit) × (mp ≡ rowWay f words keys left row b w m s .marks)
+          row-goes pe pm =
+              let q = row-well f words keys left row b w m s x r (child-starts .parts) u z (ended ∙ i) in
+              let at : rowWay f words keys left row (x + 1) u m′ z ≡ rowWay f words keys left row b w m s = ap (λ (l : List ℕ). rowWay f words keys left row (x + 1) u l z) me ∙ sym q in
+              (pe ∙ ap (λ (x : Way). x .visit) at, pm ∙ ap (λ (x : Way). x .marks) at)
