@@ -75,6 +75,11 @@ directory_part directory_leaf_tag(const uint32_t *words, size_t word_count, cons
  * + c2 + c3 + c4 + c5; they are left 0, whatever the answer, and any scratch beyond them is left alone. 0, 6, or 7 with scratch left alone. */
 uint32_t directory_check(const uint32_t *words, size_t word_count, const uint8_t *keys, size_t key_count, uint8_t *scratch, size_t scratch_count);
 
+/* The leaf with the first tag that does not come before the given bytes, in unsigned byte order; the bytes may be of any length. From there directory_next_leaf
+ * goes on. It checks the whole directory first, and leaves scratch as directory_check does. 0, 1 where every tag comes before, 6 or 7. */
+directory_found directory_first_at_or_after(const uint32_t *words, size_t word_count, const uint8_t *keys, size_t key_count, uint8_t *scratch,
+    size_t scratch_count, const uint8_t *bytes, size_t byte_count);
+
 #ifdef __cplusplus
 }
 #endif

@@ -12,6 +12,8 @@ use Rattle.tree.specs.Leaf.{tagOf}
 use Rattle.tree.specs.declared.answer.Found.{Found}
 use Rattle.tree.specs.declared.answer.Facts.{Facts}
 use Rattle.whole.specs.Check.{Answer, numberOf}
+use Rattle.range.specs.Range as range
+use Rattle.range.specs.declared.After.{After}
 use Rattle.directory_c.specs.declared.DirectoryFound.{DirectoryFound}
 use Rattle.directory_c.specs.declared.DirectoryLeaf.{DirectoryLeaf}
 use Rattle.directory_c.specs.declared.DirectoryPart.{DirectoryPart}
@@ -58,3 +60,17 @@ checked n s = record { number = n; scratch = s }
 
 abbrev pub checkedOf : Answer → DirectoryChecked
 checkedOf a = checked (numberOf (a .result)) (a .scratch)
+
+-- what first-at-or-after gives back, and scratch as it leaves it
+abbrev pub afterFound : After → DirectoryFound
+afterFound a = record { number = range.numberOf a; leaf = range.leafOf a; total = range.totalIn a }
+
+pub record DirectoryAfter : Type 0 where
+  pub found : DirectoryFound
+  pub scratch : List ℕ
+
+abbrev pub after : DirectoryFound → List ℕ → DirectoryAfter
+after d s = record { found = d; scratch = s }
+
+abbrev pub afterFoundOf : range.Answer → DirectoryAfter
+afterFoundOf a = after (afterFound (a .result)) (a .scratch)

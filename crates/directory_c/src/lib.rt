@@ -5,10 +5,12 @@ ghost use Rattle.tree.specs.Walk.{searchOf, prefixSearchOf};
 ghost use Rattle.tree.specs.Edge.{minimumOf, maximumOf};
 ghost use Rattle.tree.specs.Leaf.{nextLeafOf, factsOf};
 ghost use Rattle.whole.specs.Check.{numberOf, checkOf};
-ghost use Rattle.directory_c.specs.Numbers.{started, startedOf, capsOf, foundOf, leafOf, tagStart, partOf, checked, checkedOf};
+ghost use Rattle.range.specs.Range.{afterOf};
+ghost use Rattle.directory_c.specs.Numbers.{started, startedOf, capsOf, foundOf, leafOf, tagStart, partOf, checked, checkedOf, afterFound, after, afterFoundOf};
 use frames::frame;
 use frames::frame::Caps;
 use pools::start::Started;
+use range::After;
 use tree::answer::Facts;
 use tree::answer::Found;
 use whole::check::Checked;
@@ -202,4 +204,43 @@ pub extern "C" fn directory_check(words: &[u32], keys: &[u8], scratch: &mut [u8]
     ensures { λ r. ⌜ checked r (now (scratch .exit)) ≡ checkedOf (checkOf (now (words .entry)) (now (keys .entry)) (now (scratch .entry))) ⌝ }
 {
     check_number(whole::check::check(words, keys, scratch))
+}
+
+fn after_found(a: After) -> DirectoryFound
+    ensures { λ r. ⌜ r ≡ afterFound a ⌝ }
+{
+    match a {
+        After::Leaf(leaf, total) => DirectoryFound {
+            number: 0,
+            leaf: leaf,
+            total: total,
+        },
+        After::Missing => DirectoryFound {
+            number: 1,
+            leaf: 0,
+            total: 0,
+        },
+        After::Damaged => DirectoryFound {
+            number: 6,
+            leaf: 0,
+            total: 0,
+        },
+        After::ShortScratch => DirectoryFound {
+            number: 7,
+            leaf: 0,
+            total: 0,
+        },
+    }
+}
+
+#[no_mangle]
+pub extern "C" fn directory_first_at_or_after(
+    words: &[u32],
+    keys: &[u8],
+    scratch: &mut [u8],
+    tag: &[u8],
+) -> DirectoryFound
+    ensures { λ r. ⌜ after r (now (scratch .exit)) ≡ afterFoundOf (afterOf (now (words .entry)) (now (keys .entry)) (now (scratch .entry)) (now (tag .entry))) ⌝ }
+{
+    after_found(range::first_at_or_after(scratch, words, keys, tag))
 }

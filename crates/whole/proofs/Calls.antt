@@ -31,10 +31,10 @@ module _ (words : List ℕ) {v : Visit} where
 
 -- ---- the way from the root
 module _ (f : Frame) (words keys m : List ℕ) where
-  abbrev fork : Bool → Way
+  abbrev pub fork : Bool → Way
   fork b = elim b [ true ↦ way (Well 0 (atStart words)) m | false ↦ recordBy f words keys (f .form .limit) (rootWord words) 0 m (atStart words) ]
 
-  root-by : (b : Bool) → eqb (rootWord words) 0 ≡ b → fork b ≡ rootWay f words keys m
+  pub root-by : (b : Bool) → eqb (rootWord words) 0 ≡ b → fork b ≡ rootWay f words keys m
   unfolding rootWay
   root-by b e = ap fork (sym e)
 

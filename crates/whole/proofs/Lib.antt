@@ -5,3 +5,8 @@ pub mod Turns
 pub mod Turning
 pub mod Sweeping
 pub mod Calls
+pub mod Apart
+pub mod Agreeing
+pub mod Ways
+pub mod Sounds
+pub mod Samples

@@ -20,7 +20,7 @@ use Rattle.art.specs.Stores.{leaf-place, inner-place}
 use Rattle.whole.specs.Marks.{sumTo, markAt, unmarked, setMark, fresh, reached}
 
 -- ---- sums
-sum-suc : (k : ℕ) (l : List ℕ) → sumTo (suc k) l ≡ sumTo k l + getD l k 0
+pub sum-suc : (k : ℕ) (l : List ℕ) → sumTo (suc k) l ≡ sumTo k l + getD l k 0
 sum-suc zero [] = refl
 sum-suc (suc k) [] = refl
 sum-suc zero (x ∷ xs) = omega arith

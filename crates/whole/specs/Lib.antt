@@ -4,3 +4,4 @@ pub mod Witness
 pub mod Visit
 pub mod Sweep
 pub mod Check
+pub mod Sound

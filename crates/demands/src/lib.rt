@@ -1,0 +1,1 @@
+// The demands on the directory: theorems alone, no code.

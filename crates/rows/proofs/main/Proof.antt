@@ -1,0 +1,30 @@
+-- `main` is safe: each turn leaves one step fewer, and the room keeps its length.
+use borrow.Author.Needs.{needs}
+use lib.ListN.{length}
+use mathlib.Core.Path.{_≡_}
+use Prim.Native.Nat.{_-_}
+use Rattle.rows.proofs.main.Statement.{statement}
+use Rattle.rows.proofs.main.Tie as tie
+
+abbrev Inv-loop : tie.InvT-loop
+Inv-loop room₀ i₀ room i = length room ≡ 315
+
+abbrev μ-loop : tie.MeasureT-loop
+μ-loop room₀ i₀ room i = 81 - i
+
+pub main-spec : {M : Type 1} → statement M
+main-spec =
+    tie.close
+    (tie.spec
+    Inv-loop
+    μ-loop
+    (λ c. search needs)
+    (λ c. search needs)
+    (λ c. search needs)
+    (λ c κs. search needs)
+    (λ c. search needs)
+    (λ c κs. search needs)
+    (λ c. search needs)
+    (λ c. search needs)
+    (λ c. search needs)
+    (λ c. search needs))

@@ -1,0 +1,516 @@
+// Runs a stored list of steps on records of each kind and prints a line a step: what is asked, then the record that stands afterwards, or the answer.
+// A record's row is printed as byte:reference, in kind 3 with @ and the slot's number.
+mod steps; // the stored list
+
+ghost use mathlib.Core.Path.{_≡_};
+ghost use Prim.Native.Nat.{_≤_, _<_};
+ghost use lib.ListN.{length};
+ghost use Rattle.records.specs.Own.{InnerFits, childAt};
+use edits::representation as edit;
+use frames::form;
+use frames::form::Form;
+use frames::kind;
+use libc::STDOUT_FILENO;
+use prefix::Prefix;
+use records::representation;
+use records::representation::Entry;
+use steps::Line;
+use steps::Step;
+
+fn say(text: &[u8]) {
+    io::write_all(STDOUT_FILENO, text);
+}
+
+fn say_number(n: u32) {
+    io::print_decimal(STDOUT_FILENO, n as u64);
+}
+
+// A child as byte:reference.
+fn say_child(byte: u32, reference: u32) {
+    say_number(byte);
+    say(b":");
+    say_number(reference);
+}
+
+// A child, or that there is none.
+fn say_entry(e: Entry) {
+    let Entry::Child(byte, reference) = e else {
+        say(b"nothing");
+        return;
+    };
+    say_child(byte, reference);
+}
+
+// A reference, or that there is none.
+fn say_reference(reference: u32) {
+    if reference == 0 {
+        say(b"nothing");
+        return;
+    }
+    say_number(reference);
+}
+
+// A stored prefix byte as the letter that it is.
+fn say_letter(word: u32) {
+    let letter = [(word % 256) as u8];
+    io::write_all(STDOUT_FILENO, &letter);
+}
+
+// The prefix: its full length, then the letters that are stored.
+fn say_prefix(p: Prefix)
+    requires { ⌜ length (p .stored) ≡ 8 ⌝ }
+{
+    say_number(p.full.0);
+    say(b" ");
+    let s = prefix::stored_len(p.full);
+    let k = s.0 as usize;
+    let stored = p.stored;
+    let mut i = 0;
+    while i < k {
+        say_letter(stored[i]);
+        i += 1;
+    }
+}
+
+// The slot number of a byte in a record of kind 3.
+fn say_slot(rec: &[u32], form: Form, byte: u32) {
+    let at = form::header_of(form) + byte as usize;
+    if at < rec.len() {
+        say(b"@");
+        say_number(rec[at]);
+    }
+}
+
+// The byte to go on from after the child of byte b, 256 where all are passed.
+fn after(byte: usize, b: u32) -> usize
+    requires { ⌜ byte < 256 ⌝ }
+    ensures { λ r. ⌜ (byte < r) × (r ≤ 256) ⌝ }
+{
+    let next = b as usize + 1;
+    if next <= byte {
+        return 256;
+    }
+    if 256 < next {
+        return 256;
+    }
+    next
+}
+
+// The first child at or after the byte; answers the byte to go on from.
+fn say_from(rec: &[u32], form: Form, kind: u32, byte: usize) -> usize
+    requires { ⌜ (byte < 256) × InnerFits form kind (now rec) ⌝ }
+    ensures { λ r. ⌜ (byte < r) × (r ≤ 256) ⌝ }
+{
+    let Entry::Child(b, reference) = representation::child_from(form, rec, kind, byte) else {
+        return 256;
+    };
+    say(b" ");
+    say_child(b, reference);
+    if kind == 3 {
+        say_slot(rec, form, b);
+    }
+    after(byte, b)
+}
+
+// The row, from byte to byte.
+fn say_row(rec: &[u32], form: Form, kind: u32)
+    requires { ⌜ InnerFits form kind (now rec) ⌝ }
+{
+    let mut byte: usize = 0;
+    while byte < 256 {
+        byte = say_from(rec, form, kind, byte);
+    }
+}
+
+// A record: its kind, its prefix, how many children, and the row.
+fn say_record(rec: &[u32], form: Form, kind: u32)
+    requires { ⌜ InnerFits form kind (now rec) ⌝ }
+{
+    say(b"kind ");
+    say_number(rec[0]);
+    say(b", prefix ");
+    say_prefix(records::header::prefix_at(form, rec));
+    say(b", ");
+    say_number(rec[1]);
+    say(b" children:");
+    say_row(rec, form, kind);
+}
+
+// The kind of the record that stands at the front of the room, 0 where none does.
+fn kind_at(room: &[u32]) -> u32
+    ensures { λ r. ⌜ r ≤ 4 ⌝ }
+{
+    if room.len() == 0 {
+        return 0;
+    }
+    if 4 < room[0] {
+        return 0;
+    }
+    room[0]
+}
+
+// The form of the records.
+fn form_one() -> Form {
+    form::form_of(1)
+}
+
+// The reference for a byte, 0 where there is none.
+fn child_at(rec: &[u32], form: Form, kind: u32, byte: u8) -> u32
+    requires { ⌜ InnerFits form kind (now rec) ⌝ }
+    ensures { λ r. ⌜ r ≡ childAt form kind (now (rec .entry)) byte ⌝ }
+{
+    representation::lookup_child(form, rec, kind, byte)
+}
+
+// The answer to a question about a record.
+fn answer(rec: &[u32], form: Form, kind: u32, s: Step)
+    requires { ⌜ InnerFits form kind (now rec) ⌝ }
+{
+    if s.op == steps::LOOKUP {
+        say_reference(child_at(rec, form, kind, s.byte));
+        return;
+    }
+    if s.op == steps::LOWEST {
+        say_entry(representation::nth_child(form, rec, kind, 0));
+        return;
+    }
+    if s.op == steps::HIGHEST {
+        say_entry(representation::last_child(form, rec, kind));
+        return;
+    }
+    say_entry(representation::child_from(form, rec, kind, s.byte as usize));
+}
+
+// The record in the room after a change, or the answer to a question about it.
+fn say_room(room: &[u32], s: Step) {
+    let kind = kind_at(room);
+    if kind == 0 {
+        return;
+    }
+    let form = form_one();
+    let e = form::record_words(form, kind);
+    if room.len() < e {
+        return;
+    }
+    if !representation::inner_ok(form, &room[0..e], kind) {
+        return;
+    }
+    if s.op <= steps::MOVE {
+        say_record(&room[0..e], form, kind);
+    } else {
+        answer(&room[0..e], form, kind, s);
+    }
+}
+
+// A record of this kind with this prefix and these children, at the front of a cleared room; false where they do not fit.
+fn lay(room: &mut [u32], form: Form, to: u32, p: Prefix, places: [u32; 256]) -> bool
+    requires { ⌜ (length (p .stored) ≡ 8) × (length places ≡ 256) ⌝ }
+{
+    if form.prefix != 8 {
+        return false;
+    }
+    if to == 0 {
+        return false;
+    }
+    if 4 < to {
+        return false;
+    }
+    let row = kind::row_of(to);
+    let n = lists::scan::count_nonzero(&places);
+    if (row.children as usize) < n {
+        return false;
+    }
+    let e = form::record_words(form, to);
+    if room.len() < e {
+        return false;
+    }
+    lists::edit::clear(room);
+    edit::build(&mut room[0..e], form, to, p, places);
+    true
+}
+
+// A new branching of two children with the prefix L14.
+fn branching(room: &mut [u32], s: Step) -> bool {
+    let mut places = [0u32; 256];
+    let byte = s.byte as usize;
+    places[steps::OLD_BYTE as usize] = steps::OLD_REFERENCE;
+    places[byte] = s.reference;
+    let run = [b'L', b'1', b'4'];
+    let p = prefix::header::prefix_of(&run);
+    let form = form_one();
+    lay(room, form, s.number, p, places)
+}
+
+// The record moved into another kind.
+fn moved(room: &mut [u32], to: u32) -> bool {
+    let kind = kind_at(room);
+    if kind == 0 {
+        return false;
+    }
+    let form = form_one();
+    let e = form::record_words(form, kind);
+    if room.len() < e {
+        return false;
+    }
+    if !representation::inner_ok(form, &room[0..e], kind) {
+        return false;
+    }
+    let p = records::header::prefix_at(form, &room[0..e]);
+    let places = edit::spread_of(form, &room[0..e], kind);
+    lay(room, form, to, p, places)
+}
+
+// A child more, where there is room and none for the byte.
+fn add(rec: &mut [u32], form: Form, kind: u32, byte: u8, reference: u32) -> bool
+    requires { ⌜ InnerFits form kind (now rec) ⌝ }
+{
+    let row = kind::row_of(kind);
+    let n = rec[1];
+    if row.children <= n {
+        return false;
+    }
+    if reference == 0 {
+        return false;
+    }
+    if child_at(rec, form, kind, byte) != 0 {
+        return false;
+    }
+    edit::add_child(rec, form, kind, byte, reference);
+    true
+}
+
+// Another reference for a child.
+fn replace(rec: &mut [u32], form: Form, kind: u32, byte: u8, reference: u32) -> bool
+    requires { ⌜ InnerFits form kind (now rec) ⌝ }
+{
+    if reference == 0 {
+        return false;
+    }
+    if child_at(rec, form, kind, byte) == 0 {
+        return false;
+    }
+    edit::replace_child(rec, form, kind, byte, reference);
+    true
+}
+
+// A child less, where two are left.
+fn remove(rec: &mut [u32], form: Form, kind: u32, byte: u8) -> bool
+    requires { ⌜ InnerFits form kind (now rec) ⌝ }
+{
+    if rec[1] <= 2 {
+        return false;
+    }
+    if child_at(rec, form, kind, byte) == 0 {
+        return false;
+    }
+    edit::remove_child(rec, form, kind, byte);
+    true
+}
+
+// Another prefix: so many times the byte.
+fn set_run(rec: &mut [u32], form: Form, byte: u8, n: u32) -> bool {
+    let run = [byte; 64];
+    if 64 < n {
+        return false;
+    }
+    let k = n as usize;
+    let p = prefix::header::prefix_of(&run[0..k]);
+    let h = form::header_of(form);
+    if form.prefix != 8 {
+        return false;
+    }
+    if rec.len() < h {
+        return false;
+    }
+    edits::header::set_prefix(rec, form, p);
+    true
+}
+
+// One change of a record.
+fn change(rec: &mut [u32], form: Form, kind: u32, s: Step) -> bool
+    requires { ⌜ InnerFits form kind (now rec) ⌝ }
+{
+    if s.op == steps::ADD {
+        return add(rec, form, kind, s.byte, s.reference);
+    }
+    if s.op == steps::REPLACE {
+        return replace(rec, form, kind, s.byte, s.reference);
+    }
+    if s.op == steps::REMOVE {
+        return remove(rec, form, kind, s.byte);
+    }
+    set_run(rec, form, s.byte, s.number)
+}
+
+// One change of the record in the room.
+fn change_room(room: &mut [u32], s: Step) -> bool {
+    let kind = kind_at(room);
+    if kind == 0 {
+        return false;
+    }
+    let form = form_one();
+    let e = form::record_words(form, kind);
+    if room.len() < e {
+        return false;
+    }
+    if !representation::inner_ok(form, &room[0..e], kind) {
+        return false;
+    }
+    change(&mut room[0..e], form, kind, s)
+}
+
+// The step for the next byte, with the next reference of the same kind.
+fn next(s: Step) -> Step {
+    let byte = (s.byte as u32 + 1) % 256;
+    let reference = (s.reference as u64 + 8) % 4294967296;
+    Step {
+        op: s.op,
+        number: s.number,
+        byte: byte as u8,
+        reference: reference as u32,
+    }
+}
+
+// So many changes for the bytes in a row; stops at one that is refused.
+fn changes(room: &mut [u32], first: Step) -> bool {
+    let mut s = first;
+    let mut left = first.number;
+    while 0 < left {
+        if !change_room(room, s) {
+            return false;
+        }
+        s = next(s);
+        left -= 1;
+    }
+    true
+}
+
+// What a step does to the room; false where it is refused.
+fn run(room: &mut [u32], s: Step) -> bool {
+    if s.op == steps::NEW {
+        return branching(room, s);
+    }
+    if s.op == steps::MOVE {
+        return moved(room, s.number);
+    }
+    if s.op == steps::PREFIX {
+        return change_room(room, s);
+    }
+    changes(room, s)
+}
+
+// The step's word.
+fn say_op(op: u32) {
+    if op == steps::NEW {
+        say(b"new kind ");
+    }
+    if op == steps::ADD {
+        say(b"add ");
+    }
+    if op == steps::REPLACE {
+        say(b"replace ");
+    }
+    if op == steps::REMOVE {
+        say(b"remove ");
+    }
+    if op == steps::PREFIX {
+        say(b"prefix of ");
+    }
+    if op == steps::MOVE {
+        say(b"move to kind ");
+    }
+}
+
+// A change as it is asked.
+fn say_change(s: Step) {
+    say_op(s.op);
+    if s.op == steps::NEW {
+        say_number(s.number);
+        say(b" of ");
+        say_child(steps::OLD_BYTE as u32, steps::OLD_REFERENCE);
+        say(b" and ");
+        say_child(s.byte as u32, s.reference);
+        return;
+    }
+    if s.op == steps::MOVE {
+        say_number(s.number);
+        return;
+    }
+    say_number(s.byte as u32);
+    if s.op <= steps::REPLACE {
+        say(b":");
+        say_number(s.reference);
+    }
+    if 1 < s.number {
+        say(b", ");
+        say_number(s.number);
+        say(b" in a row");
+    }
+}
+
+// A change, and the record that it leaves.
+fn show_change(room: &mut [u32], s: Step) {
+    say_change(s);
+    say(b" -> ");
+    if run(room, s) {
+        say_room(room, s);
+    } else {
+        say(b"refused");
+    }
+    say(b"\n");
+}
+
+// A question as it is asked.
+fn say_question(s: Step) {
+    if s.op == steps::LOWEST {
+        say(b"lowest");
+        return;
+    }
+    if s.op == steps::HIGHEST {
+        say(b"highest");
+        return;
+    }
+    if s.op == steps::LOOKUP {
+        say(b"lookup ");
+    } else {
+        say(b"at or after ");
+    }
+    say_number(s.byte as u32);
+}
+
+// A question, and its answer.
+fn show_answer(room: &[u32], s: Step) {
+    say_question(s);
+    say(b" = ");
+    say_room(room, s);
+    say(b"\n");
+}
+
+// A step's line.
+fn show(room: &mut [u32], s: Step) {
+    if s.op <= steps::MOVE {
+        show_change(room, s);
+    } else {
+        show_answer(room, s);
+    }
+}
+
+fn step_of(line: Line) -> Step {
+    Step {
+        op: line.0,
+        number: line.1,
+        byte: line.2,
+        reference: line.3,
+    }
+}
+
+// The room is as long as the longest record.
+fn main() {
+    let mut room = [0u32; 315];
+    let mut i = 0;
+    while i < steps::COUNT {
+        let s = step_of(steps::STEPS[i]);
+        show(&mut room, s);
+        i += 1;
+    }
+}

@@ -1,0 +1,46 @@
+-- A sound block, as the paper says it.
+use Prim.Native.Nat.{ℕ}
+use mathlib.Core.Path.{_≡_}
+use mathlib.Core.List.{List, []}
+use mathlib.Core.Option.{Option, none, some}
+use mathlib.Core.Bool.{true}
+use lib.ListN.{length, getD}
+use Rattle.lists.specs.Scan.{choose}
+use Rattle.frames.specs.Frame.{trailerOf, frameFits, frameOf, rootWord, firstWord, lastWord, countWord}
+use Rattle.frames.specs.Place.{refOf, inPool, recordAt}
+use Rattle.frames.specs.declared.frame.Frame.{Frame}
+use Rattle.records.specs.View.{Held, cellOf, ruleAt, blankAt}
+use Rattle.art.specs.Trees.{Tree}
+use Rattle.art.specs.Deletes.{held, Sane}
+use Rattle.art.specs.Stores.{Place, leaf-place, Store, unused, empty, store, root, Once, Used}
+use Rattle.art.specs.Chain.{Links, Linked, leaves-of}
+use Rattle.art.specs.Points.{store-of}
+use Rattle.art.specs.Calls.{OnceOf}
+use Rattle.view.specs.Links.{linksOf}
+
+-- the frame that the trailer gives
+abbrev pub frame : List ℕ → Frame
+frame words = frameOf (trailerOf words)
+
+-- the reference to the root of a tree, or 0 where there is none
+abbrev pub Rooted : ℕ → Option (Tree Held) → Type 0
+Rooted ref none = ref ≡ 0
+Rooted ref (some t) = ref ≡ refOf (root t)
+
+pub record Sound (words keys : List ℕ) : Type 0 where
+  -- the frame fits
+  pub fits : frameFits words keys ≡ true
+  -- every used record obeys its rule
+  pub rules : (x : Place) → Used (cellOf (frame words) words keys x) → ruleAt (frame words) words keys x ≡ true
+  -- and is reached once from the root, with no used one unreached; every tag below agrees with every prefix byte and each child byte
+  pub tree : Option (Tree Held)
+  pub good : Sane tree
+  pub rooted : Rooted (rootWord words) tree
+  pub once : OnceOf tree
+  pub shown : (x : Place) → cellOf (frame words) words keys x ≡ store-of tree x
+  -- free records, and free leaves' key bytes, are all 0
+  pub free : (x : Place) → inPool (frame words) x ≡ true → cellOf (frame words) words keys x ≡ unused → blankAt (frame words) words keys x ≡ true
+  -- the leaf list is all leaves in byte order, both ways, first and last at its ends and 0 beyond
+  pub linked : Linked (linksOf (frame words) words) 0 (leaves-of tree)
+  -- the tag count is right
+  pub count : countWord words ≡ length (held tree)
