@@ -2,10 +2,11 @@
  *
  * Every call ends and answers on any memory: lend what you have, and read the number.
  *
- *   0  done                                   6  the words or key bytes are damaged
- *   1  no such tag                            7  scratch is shorter than the five capacities added
- *                                             8  start: a capacity over 4,096 or a slice of the wrong length
- *                                             9  no leaf in use has this number
+ *   0  done                                   5  no record free for it
+ *   1  no such tag                            6  the words or key bytes are damaged
+ *   2  a tag to insert is over 64 bytes       7  scratch is shorter than the five capacities added
+ *   3  it begins a held tag, or one begins it 8  start: a capacity over 4,096 or a slice of the wrong length
+ *   4  no leaf free for it                    9  no leaf in use has this number
  *
  * With any number but 0 the other fields of an answer are 0, and no word and no key byte has changed.
  *
@@ -32,6 +33,12 @@ typedef struct {
     uint32_t leaf;
     uint64_t total;
 } directory_found;
+
+/* The total that a tag had; 0 where an insert is of a new one. */
+typedef struct {
+    uint32_t number;
+    uint64_t total;
+} directory_changed;
 
 /* The length of a leaf's tag, and its total. */
 typedef struct {
@@ -79,6 +86,15 @@ uint32_t directory_check(const uint32_t *words, size_t word_count, const uint8_t
  * goes on. It checks the whole directory first, and leaves scratch as directory_check does. 0, 1 where every tag comes before, 6 or 7. */
 directory_found directory_first_at_or_after(const uint32_t *words, size_t word_count, const uint8_t *keys, size_t key_count, uint8_t *scratch,
     size_t scratch_count, const uint8_t *bytes, size_t byte_count);
+
+/* Hold a tag with this total; of a tag that is held already, change the total. It checks the whole directory first, and leaves scratch as directory_check does;
+ * a tag over 64 bytes is refused before that, with scratch left alone. 0, 2, 3, 4, 5, 6 or 7. */
+directory_changed directory_insert(uint32_t *words, size_t word_count, uint8_t *keys, size_t key_count, uint8_t *scratch, size_t scratch_count,
+    const uint8_t *tag, size_t tag_length, uint64_t total);
+
+/* Hold a tag no more. It checks the whole directory first, and leaves scratch as directory_check does. 0, 1, 6 or 7. */
+directory_changed directory_delete(uint32_t *words, size_t word_count, uint8_t *keys, size_t key_count, uint8_t *scratch, size_t scratch_count,
+    const uint8_t *tag, size_t tag_length);
 
 #ifdef __cplusplus
 }

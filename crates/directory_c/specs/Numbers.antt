@@ -14,6 +14,13 @@ use Rattle.tree.specs.declared.answer.Facts.{Facts}
 use Rattle.whole.specs.Check.{Answer, numberOf}
 use Rattle.range.specs.Range as range
 use Rattle.range.specs.declared.After.{After}
+use Rattle.insert.specs.Answer as insert-answer
+use Rattle.insert.specs.Insert as insert
+use Rattle.insert.specs.declared.answer.Inserted.{Inserted}
+use Rattle.delete.specs.Answer as delete-answer
+use Rattle.delete.specs.Delete as delete
+use Rattle.delete.specs.declared.answer.Deleted.{Deleted}
+use Rattle.directory_c.specs.declared.DirectoryChanged.{DirectoryChanged}
 use Rattle.directory_c.specs.declared.DirectoryFound.{DirectoryFound}
 use Rattle.directory_c.specs.declared.DirectoryLeaf.{DirectoryLeaf}
 use Rattle.directory_c.specs.declared.DirectoryPart.{DirectoryPart}
@@ -74,3 +81,28 @@ after d s = record { found = d; scratch = s }
 
 abbrev pub afterFoundOf : range.Answer → DirectoryAfter
 afterFoundOf a = after (afterFound (a .result)) (a .scratch)
+
+-- what insert and delete give back, and the slices as they leave them
+abbrev pub change : ℕ → ℕ → DirectoryChanged
+change n t = record { number = n; total = t }
+
+abbrev pub insertChange : Inserted → DirectoryChanged
+insertChange a = change (insert-answer.numberOf a) (insert-answer.totalIn a)
+
+abbrev pub deleteChange : Deleted → DirectoryChanged
+deleteChange a = change (delete-answer.numberOf a) (delete-answer.totalIn a)
+
+pub record DirectoryWritten : Type 0 where
+  pub changed : DirectoryChanged
+  pub words : List ℕ
+  pub keys : List ℕ
+  pub scratch : List ℕ
+
+abbrev pub written : DirectoryChanged → (words keys scratch : List ℕ) → DirectoryWritten
+written c w k s = record { changed = c; words = w; keys = k; scratch = s }
+
+abbrev pub insertWritten : insert.Out → DirectoryWritten
+insertWritten o = written (insertChange (o .answer)) (o .words) (o .keys) (o .scratch)
+
+abbrev pub deleteWritten : delete.Left → DirectoryWritten
+deleteWritten l = written (deleteChange (l .answer)) (l .words) (l .keys) (l .scratch)

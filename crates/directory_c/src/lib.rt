@@ -6,9 +6,13 @@ ghost use Rattle.tree.specs.Edge.{minimumOf, maximumOf};
 ghost use Rattle.tree.specs.Leaf.{nextLeafOf, factsOf};
 ghost use Rattle.whole.specs.Check.{numberOf, checkOf};
 ghost use Rattle.range.specs.Range.{afterOf};
-ghost use Rattle.directory_c.specs.Numbers.{started, startedOf, capsOf, foundOf, leafOf, tagStart, partOf, checked, checkedOf, afterFound, after, afterFoundOf};
+ghost use Rattle.insert.specs.Insert.{insertOf};
+ghost use Rattle.delete.specs.Delete.{deleteOf};
+ghost use Rattle.directory_c.specs.Numbers.{started, startedOf, capsOf, foundOf, leafOf, tagStart, partOf, checked, checkedOf, afterFound, after, afterFoundOf, change, insertChange, deleteChange, written, insertWritten, deleteWritten};
+use delete::answer::Deleted;
 use frames::frame;
 use frames::frame::Caps;
+use insert::answer::Inserted;
 use pools::start::Started;
 use range::After;
 use tree::answer::Facts;
@@ -20,6 +24,13 @@ use whole::check::Checked;
 pub struct DirectoryFound {
     pub number: u32,
     pub leaf: u32,
+    pub total: u64,
+}
+
+// The total that a tag had, and the number given back.
+#[repr(C)]
+pub struct DirectoryChanged {
+    pub number: u32,
     pub total: u64,
 }
 
@@ -243,4 +254,64 @@ pub extern "C" fn directory_first_at_or_after(
     ensures { λ r. ⌜ after r (now (scratch .exit)) ≡ afterFoundOf (afterOf (now (words .entry)) (now (keys .entry)) (now (scratch .entry)) (now (tag .entry))) ⌝ }
 {
     after_found(range::first_at_or_after(scratch, words, keys, tag))
+}
+
+fn changed(number: u32, total: u64) -> DirectoryChanged
+    ensures { λ r. ⌜ r ≡ change number total ⌝ }
+{
+    DirectoryChanged {
+        number: number,
+        total: total,
+    }
+}
+
+fn insert_change(a: Inserted) -> DirectoryChanged
+    ensures { λ r. ⌜ r ≡ insertChange a ⌝ }
+{
+    match a {
+        Inserted::New => changed(0, 0),
+        Inserted::Over(total) => changed(0, total),
+        Inserted::TooLong => changed(2, 0),
+        Inserted::Clash => changed(3, 0),
+        Inserted::NoLeaf => changed(4, 0),
+        Inserted::NoRecord => changed(5, 0),
+        Inserted::Damaged => changed(6, 0),
+        Inserted::ShortScratch => changed(7, 0),
+    }
+}
+
+#[no_mangle]
+pub extern "C" fn directory_insert(
+    words: &mut [u32],
+    keys: &mut [u8],
+    scratch: &mut [u8],
+    tag: &[u8],
+    total: u64,
+) -> DirectoryChanged
+    ensures { λ r. ⌜ written r (now (words .exit)) (now (keys .exit)) (now (scratch .exit)) ≡ insertWritten (insertOf (now (words .entry)) (now (keys .entry)) (now (scratch .entry)) (now (tag .entry)) total) ⌝ }
+{
+    insert_change(insert::insert::insert(words, keys, scratch, tag, total))
+}
+
+fn delete_change(a: Deleted) -> DirectoryChanged
+    ensures { λ r. ⌜ r ≡ deleteChange a ⌝ }
+{
+    match a {
+        Deleted::Gone(total) => changed(0, total),
+        Deleted::Missing => changed(1, 0),
+        Deleted::Damaged => changed(6, 0),
+        Deleted::ShortScratch => changed(7, 0),
+    }
+}
+
+#[no_mangle]
+pub extern "C" fn directory_delete(
+    words: &mut [u32],
+    keys: &mut [u8],
+    scratch: &mut [u8],
+    tag: &[u8],
+) -> DirectoryChanged
+    ensures { λ r. ⌜ written r (now (words .exit)) (now (keys .exit)) (now (scratch .exit)) ≡ deleteWritten (deleteOf (now (words .entry)) (now (keys .entry)) (now (scratch .entry)) (now (tag .entry))) ⌝ }
+{
+    delete_change(delete::delete::delete(words, keys, scratch, tag))
 }

@@ -98,7 +98,7 @@ fn ended(s: Step) -> After
 }
 
 // Along the leaf list from its first: no more steps than leaves, and one for the end.
-fn after_first(words: &[u32], keys: &[u8], f: Frame, tag: &[u8]) -> After
+pub fn after_first(words: &[u32], keys: &[u8], f: Frame, tag: &[u8]) -> After
     requires { ⌜ FrameOf f (now words) (now keys) ⌝ }
     ensures { λ r. ⌜ r ≡ afterFirst f (now (words .entry)) (now (keys .entry)) (now (tag .entry)) ⌝ }
 {

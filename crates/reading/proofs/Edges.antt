@@ -124,7 +124,7 @@ module _ (f : Frame) (words keys : List ℕ) (rules : (x : Place) → Used (cell
       edge-next f words keys edge (suc left) ref (edgeRef edge (f .form) k rec) (omega arith) (sym (edge-step-by f words keys edge (suc left) ref _ (arrival.at-inner f words keys rules (suc left) ref k n _ _ _ (h .0) e (omega arith))))
       ∙ ap₂ (edgeOf f words keys edge) (let i : suc left - 1 ≡ left = omega arith in i) (sym (edge-by edge (f .form) k rec _ refl))
 
-  edge-as : (left : ℕ) (edge : Edge) (t : Tree Held) → Good t → (p : Tag) → Shows t p (cellOf f words keys) → height t ≤ left → (ref : ℕ) → placeAt ref ≡ root t
+  pub edge-as : (left : ℕ) (edge : Edge) (t : Tree Held) → Good t → (p : Tag) → Shows t p (cellOf f words keys) → height t ≤ left → (ref : ℕ) → placeAt ref ≡ root t
       → edgeOf f words keys edge left ref ≡ answerOf (edge-leaf edge t)
   edge-as zero Low (leaf n s a) g p h l ref e = at-leaf Low zero n (p ++ s) a h ref e
   edge-as zero High (leaf n s a) g p h l ref e = at-leaf High zero n (p ++ s) a h ref e

@@ -4,7 +4,8 @@ use mathlib.Core.Path.{_≡_, refl, sym, ap, subst, _∙_}
 use mathlib.Core.List.{List, _++_}
 use mathlib.Core.Bool.{Bool, true, false, _&&_}
 use native.Mathlib.Nat.{sub-zero}
-use lib.ListN.{length, drop, replicate, length-replicate}
+use lib.ListN.{length, take, drop, replicate, length-replicate}
+use lib.Seq.{take-at, drop-at}
 use lib.Dec.{eqb}
 use borrow.Author.Tests.{eq-eqb, ne-eqb, lt-ltb, le-ltb}
 use Rattle.lists.specs.Scan.{choose}
@@ -65,8 +66,8 @@ module _ (f : Frame) {n : ℕ} {z : List ℕ} (long : n ≡ placesIn f) (ze : z 
   unfolding wholeBy
   clean-by words keys h = h ∙ ap (λ (l : List ℕ). wayWell f words keys (rootWay f words keys l)) clean-start
 
-  pub clean-after : {k : ℕ} {u : List ℕ} → k ≡ length z → u ≡ replicate k 0 → u ≡ replicate (placesIn f) 0
-  clean-after l e = e ∙ ap (λ (n : ℕ). replicate n 0) (l ∙ ap length clean-start ∙ length-replicate (placesIn f) 0)
+  pub clean-long : {k : ℕ} → k ≡ length z → k ≡ placesIn f
+  clean-long l = l ∙ ap length clean-start ∙ length-replicate (placesIn f) 0
 
 -- ---- the call
 module _ (words keys scratch : List ℕ) where
@@ -87,11 +88,13 @@ module _ {words keys : List ℕ} (scratch : List ℕ) {f : Frame} (w : FrameOf f
   pub check-short : length scratch < placesIn f → answer ShortScratch scratch ≡ checkOf words keys scratch
   check-short h = ap (λ (b : Bool). choose b (answer ShortScratch scratch) done) (sym (lt-ltb (length scratch) (placesIn f) h)) ∙ framed-by
 
-  pub check-done : {n : ℕ} {b : Bool} {z : List ℕ} → n ≡ placesIn f → n ≤ length scratch → wholeBy f words keys ≡ b → z ≡ replicate (placesIn f) 0
-      → answer (choose b Sound Damaged) (z ++ drop (n - 0) scratch) ≡ checkOf words keys scratch
-  check-done {n} {b} {z} e h q ze =
-      ap (λ (t : Bool). answer (choose t Sound Damaged) (z ++ drop (n - 0) scratch)) (sym q)
-      ∙ ap (λ (l : List ℕ). answer (choose (wholeBy f words keys) Sound Damaged) (l ++ drop (n - 0) scratch)) ze
-      ∙ ap (λ (k : ℕ). answer (choose (wholeBy f words keys) Sound Damaged) (replicate (placesIn f) 0 ++ drop k scratch)) (sub-zero n ∙ e)
+  -- the marks, m, are written over by the zeros z
+  pub check-done : {n : ℕ} {b : Bool} (m : List ℕ) {z : List ℕ} → n ≡ placesIn f → n ≤ length scratch → wholeBy f words keys ≡ b → length m ≡ placesIn f → z ≡ replicate (length (take (n - 0) (m ++ drop (n - 0) scratch))) 0
+      → answer (choose b Sound Damaged) (z ++ drop (n - 0) (m ++ drop (n - 0) scratch)) ≡ checkOf words keys scratch
+  check-done {n} {b} m {z} e h q long ze =
+      ap (λ (t : Bool). answer (choose t Sound Damaged) (z ++ drop (n - 0) (m ++ drop (n - 0) scratch))) (sym q)
+      ∙ ap (λ (l : List ℕ). answer (choose (wholeBy f words keys) Sound Damaged) (l ++ drop (n - 0) (m ++ drop (n - 0) scratch))) (ze ∙ ap (λ (l : List ℕ). replicate (length l) 0) (take-at m (drop (n - 0) scratch) (n - 0) (long ∙ sym (sub-zero n ∙ e))) ∙ ap (λ (i : ℕ). replicate i 0) long)
+      ∙ ap (λ (l : List ℕ). answer (choose (wholeBy f words keys) Sound Damaged) (replicate (placesIn f) 0 ++ l))
+      (drop-at m (drop (n - 0) scratch) (n - 0) (long ∙ sym (sub-zero n ∙ e)) ∙ ap (λ (i : ℕ). drop i scratch) (sub-zero n ∙ e))
       ∙ ap (λ (b : Bool). choose b (answer ShortScratch scratch) done) (sym (le-ltb (length scratch) (placesIn f) (subst (λ (k : ℕ). k ≤ length scratch) e h)))
       ∙ framed-by

@@ -1,7 +1,7 @@
 // The call: whether a block is sound.
 ghost use mathlib.Core.Path.{_≡_};
 ghost use Prim.Native.Nat.{_≤_};
-ghost use lib.ListN.{length, replicate};
+ghost use lib.ListN.{length};
 ghost use Rattle.frames.specs.Frame.{FrameOf};
 ghost use Rattle.whole.specs.Marks.{placesIn};
 ghost use Rattle.whole.specs.Visit.{Way, way};
@@ -63,15 +63,13 @@ fn whole(marks: &mut [u8], words: &[u32], keys: &[u8], f: Frame) -> bool
     ended & swept
 }
 
-// Whether the block is sound; scratch is left with zeros for the marks.
-fn whole_clean(marks: &mut [u8], words: &[u32], keys: &[u8], f: Frame) -> bool
+// Whether the block is sound, whatever the marks were.
+fn whole_anew(marks: &mut [u8], words: &[u32], keys: &[u8], f: Frame) -> bool
     requires { ⌜ FrameOf f (now words) (now keys) × (length (now marks) ≡ placesIn f) ⌝ }
-    ensures { λ r. ⌜ (r ≡ wholeBy f (now (words .entry)) (now (keys .entry))) × (now (marks .exit) ≡ replicate (placesIn f) 0) ⌝ }
+    ensures { λ r. ⌜ (r ≡ wholeBy f (now (words .entry)) (now (keys .entry))) × (length (now (marks .exit)) ≡ placesIn f) ⌝ }
 {
     edit::clear_bytes(marks);
-    let sound = whole(marks, words, keys, f);
-    edit::clear_bytes(marks);
-    sound
+    whole(marks, words, keys, f)
 }
 
 // The check of a block.
@@ -86,7 +84,9 @@ pub fn check(words: &[u32], keys: &[u8], scratch: &mut [u8]) -> Checked
     if scratch.len() < n {
         return Checked::ShortScratch;
     }
-    if whole_clean(&mut scratch[0..n], words, keys, f) {
+    let sound = whole_anew(&mut scratch[0..n], words, keys, f);
+    edit::clear_bytes(&mut scratch[0..n]);
+    if sound {
         return Checked::Sound;
     }
     Checked::Damaged

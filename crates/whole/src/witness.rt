@@ -24,7 +24,7 @@ fn tag_len(words: &[u32], keys: &[u8], f: Frame, leaf: u32) -> usize
 }
 
 // A leaf's tag, as a part of the key bytes.
-fn tag_at<'a>(words: &[u32], keys: &'a [u8], f: Frame, leaf: u32) -> &'a [u8]
+pub fn tag_at<'a>(words: &[u32], keys: &'a [u8], f: Frame, leaf: u32) -> &'a [u8]
     requires { ⌜ FrameOf f (now words) (now keys) × LeafSeen f (now words) (now keys) leaf ⌝ }
     ensures { λ r. ⌜ now r ≡ tagAt f (now (words .entry)) (now (keys .entry)) leaf ⌝ }
 {

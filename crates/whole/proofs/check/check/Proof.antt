@@ -24,15 +24,15 @@ returns-2 c =
 
 returns-3 : tie.Need-returns-3
 returns-3 c =
-    let s = c .before .before .before .before .before .before .before .before .before .before .before .before .before .args in
-    let r = c .before .before .before .whole-clean .ensures in
-    check-done (s .scratch .now) (c .before .before .before .before .before .before .before .frame-at .ensures) (c .before .before .before .before .before .before .places-in .ensures) (omega arith) (sym (r .0) ∙ c .if3 .taken) (r .1)
+    let s = c .before .before .before .before .before .before .before .before .before .before .before .before .before .before .before .before .before .args in
+    let r = c .before .before .before .before .before .before .before .whole-anew .ensures in
+    check-done (s .scratch .now) (c .before .before .before .before .before .before .before .before .before .before .before .frame-at .ensures) (c .before .before .before .before .before .before .before .whole-anew .last .0) (c .before .before .before .before .before .before .before .before .before .before .places-in .ensures) (omega arith) (sym (r .0) ∙ c .if3 .taken) (r .1) (c .before .before .before .clear-bytes .ensures)
 
 returns-4 : tie.Need-returns-4
 returns-4 c =
-    let s = c .before .before .before .before .before .before .before .before .before .before .before .before .before .args in
-    let r = c .before .before .before .whole-clean .ensures in
-    check-done (s .scratch .now) (c .before .before .before .before .before .before .before .frame-at .ensures) (c .before .before .before .before .before .before .places-in .ensures) (omega arith) (sym (r .0) ∙ c .if3 .left) (r .1)
+    let s = c .before .before .before .before .before .before .before .before .before .before .before .before .before .before .before .before .before .args in
+    let r = c .before .before .before .before .before .before .before .whole-anew .ensures in
+    check-done (s .scratch .now) (c .before .before .before .before .before .before .before .before .before .before .before .frame-at .ensures) (c .before .before .before .before .before .before .before .whole-anew .last .0) (c .before .before .before .before .before .before .before .before .before .before .places-in .ensures) (omega arith) (sym (r .0) ∙ c .if3 .left) (r .1) (c .before .before .before .clear-bytes .ensures)
 
 pub check-spec : {M : Type 1} → statement M
 check-spec =
@@ -47,6 +47,10 @@ check-spec =
     (λ c. search needs)
     (λ c. search needs)
     (λ c κs. search needs)
+    (λ c. search needs)
+    (λ c. search needs)
+    (λ c. search needs)
+    (λ c. search needs)
     (λ c. search needs)
     returns-3
     (λ c. search needs)

@@ -1,0 +1,17 @@
+pub mod Aparts
+pub mod Merges
+pub mod Lefts
+pub mod Links
+pub mod Cuts
+pub mod Neighbours
+pub mod Plans
+pub mod Grounds
+pub mod Ready
+pub mod Outs
+pub mod Sounds
+pub mod Answers
+pub mod Refusals
+mod Examples
+pub mod Planning
+pub mod Joins
+pub mod Calls

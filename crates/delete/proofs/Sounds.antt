@@ -1,0 +1,144 @@
+-- The words after a delete show the store of the tree without the tag, with its links, its root and its count, so the block is sound again.
+use Prim.Native.Nat.{ℕ, suc, _-_, _<_}
+use mathlib.Core.Path.{_≡_, sym, ap, subst, _∙_}
+use mathlib.Core.Logic.{inl, inr}
+use mathlib.Core.List.{List, []}
+use mathlib.Core.Option.{Option, none, some}
+use mathlib.Core.Bool.{true}
+use native.Mathlib.Omega.{arith}
+use lib.ListN.{length}
+use Rattle.lists.specs.Scan.{all, atMost}
+use Rattle.frames.specs.Frame.{rootWord, countWord}
+use Rattle.frames.specs.Place.{inPool}
+use Rattle.frames.specs.declared.frame.Frame.{Frame}
+use Rattle.records.specs.View.{Held}
+use Rattle.art.specs.Trees.{Tree, Good, contents}
+use Rattle.art.specs.Puts.{leave}
+use Rattle.art.specs.Facts.{height, delete}
+use Rattle.art.specs.Deletes.{Home, held, change, Sane}
+use Rattle.art.specs.Stores.{leaf-place, unused, Store, write, apply, Used, root, store, Once}
+use Rattle.art.specs.Chain.{Links, link-out, Linked, leaves-of}
+use Rattle.art.specs.Points as art
+use Rattle.art.specs.Calls.{OnceOf}
+use Rattle.art.proofs.Walks.{store-shows}
+use Rattle.art.proofs.Deletes.{change-held, change-sane}
+use Rattle.art.proofs.DeletePoints.{delete-makes, delete-moves}
+use Rattle.art.proofs.Leaves.{cut-linked}
+use Rattle.art.proofs.Counts.{cut-count}
+use Rattle.art.proofs.Calls.{call-once}
+use Rattle.pools.specs.Link.{setTrailer}
+use Rattle.view.specs.Links.{linksOf}
+use Rattle.whole.specs.Sound.{frame, Rooted, Sound}
+use Rattle.writes.specs.Leaf.{leafOut, keyOut}
+use Rattle.writes.specs.declared.leaf_node.Gap.{Gap}
+use Rattle.states.specs.State.{State}
+use Rattle.states.proofs.Steps.{state-pool, state-leaf, state-leaf-out, state-count}
+use Rattle.states.proofs.Standing.{used-end}
+use Rattle.states.proofs.Sounds.{sound-state, state-sound}
+use Rattle.delete.specs.declared.plan.Cut.{Cut}
+use Rattle.delete.specs.declared.plan.Plan.the-variants.{Out}
+use Rattle.delete.specs.Plan.{planOf}
+use Rattle.delete.specs.Apply.{pruned, goneWords}
+use Rattle.delete.proofs.Links.{rootRef}
+use Rattle.delete.proofs.Neighbours.{StoreEnd, numbered, ends-used}
+use Rattle.delete.proofs.Outs.{leaf-stays, leaf-first, under-inners}
+use Rattle.delete.proofs.Plans.{OutFits}
+use Rattle.delete.proofs.Grounds.{SoundFits, sound-fits}
+use Rattle.delete.proofs.Ready.{gap-links}
+
+-- the reference to a tree's root
+rooted-by : (d : Option (Tree Held)) (r : ℕ) → r ≡ rootRef (art.root-of d) → Rooted r d
+rooted-by none r e = e
+rooted-by (some t) r e = e
+
+-- a leaf that stays in use
+end-stays : (σ τ : Store Held) → ((n : ℕ) → τ (leaf-place n) ≡ σ (leaf-place n)) → (ref : ℕ) → StoreEnd σ ref → StoreEnd τ ref
+end-stays σ τ h ref (inl e) = inl e
+end-stays σ τ h ref (inr u) = inr (u .0, u .1, subst Used (sym (h (u .0))) (u .2))
+
+module _ (words keys tag : List ℕ) (cut : Cut) (n : ℕ) (gap : Gap) (t : Tree Held) (good : Good t) (once : Once t []) (linked : Linked (linksOf (frame words) words) 0 (leaves-of (some t)))
+    (s : State (frame words) words keys (store t []) (linksOf (frame words) words) (rootWord words) (length (held (some t))))
+    (o : OutFits (frame words) words keys tag t (linksOf (frame words) words) (length (held (some t))) cut n gap) where
+  abbrev f : Frame
+  f = frame words
+
+  abbrev links : Links
+  links = linksOf (frame words) words
+
+  abbrev σ : Store Held
+  σ = store t []
+
+  abbrev home : Home
+  home = o .cut-fits .home
+
+  -- the directory without the tag
+  abbrev without-tag : Option (Tree Held)
+  without-tag = change t (λ a. none) home tag
+
+  deep : height t < suc (height t)
+  deep = omega arith
+
+  pool : inPool f (leaf-place n) ≡ true
+  pool = state-pool s (leaf-place n) (subst Used (sym (o .leaf-is)) tt)
+
+  ends : StoreEnd σ (links .prev n) × StoreEnd σ (links .next n)
+  ends = subst (λ (m : ℕ). StoreEnd σ (links .prev m) × StoreEnd σ (links .next m)) (o .number-is) (ends-used t good once (λ m u a e. state-leaf s m u a e .2) links linked tag (o .held) (o .found))
+
+  -- ── the state after the writes ──
+  abbrev under : Store Held
+  under = apply σ (art.delete-under σ home (o .upper) (o .up))
+
+  abbrev new-root : ℕ
+  new-root = rootRef (art.under-root σ home (o .upper) (o .up) (root t))
+
+  stays : (m : ℕ) → under (leaf-place m) ≡ σ (leaf-place m)
+  stays = leaf-stays σ (art.delete-under σ home (o .upper) (o .up)) (under-inners σ home (o .upper) (o .up))
+
+  leaf-gone : State f (leafOut f n (links .prev n) (links .next n) (pruned f cut words)) (keyOut f n keys) (write under (leaf-place n) unused) (link-out links n) new-root (length (held (some t)))
+  leaf-gone =
+      let done = o .cut-fits .done .state in
+      state-leaf-out done n pool (used-end done (links .prev n) (end-stays σ under stays (links .prev n) (ends .0))) (used-end done (links .next n) (end-stays σ under stays (links .next n) (ends .1)))
+
+  made : write under (leaf-place n) unused ≡ art.store-of without-tag
+  made =
+      sym (leaf-first σ (art.delete-under σ home (o .upper) (o .up)) (under-inners σ home (o .upper) (o .up)) n unused)
+      ∙ ap (λ (p : art.Point). apply σ (art.delete-at σ home p)) (sym (o .at))
+      ∙ delete-makes (suc (height t)) t good once deep home (o .cut-fits .roomy) tag
+
+  moved : new-root ≡ rootRef (art.root-of without-tag)
+  moved =
+      ap rootRef (ap (λ (p : art.Point). art.delete-root σ home p (root t)) (sym (o .at)) ∙ delete-moves (suc (height t)) σ t good (store-shows t [] once) deep home tag)
+
+  gone : State f (goneWords f cut n gap words) (keyOut f n keys) (art.store-of without-tag) (link-out links n) new-root (countWord words - 1)
+  unfolding goneWords
+  gone =
+      let gaps = gap-links f words n pool in
+      let previous : gap .previous ≡ links .prev n = ap (λ (g : Gap). g .previous) (o .gap-is) ∙ gaps .0 in
+      let next : gap .next ≡ links .next n = ap (λ (g : Gap). g .next) (o .gap-is) ∙ gaps .1 in
+      let at : (p q : ℕ) → List ℕ = λ p q. setTrailer 14 (countWord words - 1) (leafOut f n p q (pruned f cut words)) in
+      let done : State f (at (links .prev n) (links .next n)) (keyOut f n keys) (write under (leaf-place n) unused) (link-out links n) new-root (countWord words - 1) = state-count leaf-gone (countWord words - 1) in
+      subst (λ (p : ℕ). State f (at p (gap .next)) (keyOut f n keys) (art.store-of without-tag) (link-out links n) new-root (countWord words - 1)) (sym previous)
+      (subst (λ (q : ℕ). State f (at (links .prev n) q) (keyOut f n keys) (art.store-of without-tag) (link-out links n) new-root (countWord words - 1)) (sym next)
+      (subst (λ (τ : Store Held). State f (at (links .prev n) (links .next n)) (keyOut f n keys) τ (link-out links n) new-root (countWord words - 1)) made done))
+
+  -- ── so it is sound ──
+  gone-sound : (s′ : Sound (goneWords f cut n gap words) (keyOut f n keys)) × (s′ .tree ≡ without-tag)
+  gone-sound =
+      state-sound without-tag gone (change-sane t good (λ a. none) home tag) (call-once (some t) once home (delete tag) (o .cut-fits .roomy)) (rooted-by without-tag new-root moved)
+      (subst (λ (m : ℕ). Linked (link-out links m) 0 (leaves-of without-tag)) (o .number-is)
+      (cut-linked (λ a. a .number) links t good once (numbered t good once (λ m u a e. state-leaf s m u a e .2)) home tag (o .held) (o .found) linked))
+      (omega (arith, s .count-is, cut-count t good home tag (o .held) (o .found)))
+
+  gone-held : (s′ : Sound (goneWords f cut n gap words) (keyOut f n keys)) × (held (s′ .tree) ≡ leave tag (contents t))
+  gone-held = (gone-sound .0, ap held (gone-sound .1) ∙ change-held t good (λ a. none) home tag)
+
+-- after a delete the block is sound, and holds what it held without the tag
+module _ {words keys : List ℕ} (s : Sound words keys) (tag : List ℕ) (bytes : all (atMost 255) tag ≡ true) (cut : Cut) (n : ℕ) (gap : Gap) (e : planOf (frame words) words keys tag ≡ Out cut n gap) where
+  pub delete-sound : (s′ : Sound (goneWords (frame words) cut n gap words) (keyOut (frame words) n keys)) × (held (s′ .tree) ≡ leave tag (held (s .tree)))
+  delete-sound = go (s .tree) (s .good) (s .once) (s .linked) (sound-state s) (subst (SoundFits words keys tag (s .tree)) e (sound-fits tag bytes s))
+    where
+      go : (d : Option (Tree Held)) → Sane d → OnceOf d → Linked (linksOf (frame words) words) 0 (leaves-of d)
+          → State (frame words) words keys (art.store-of d) (linksOf (frame words) words) (rootWord words) (length (held d)) → SoundFits words keys tag d (Out cut n gap)
+          → (s′ : Sound (goneWords (frame words) cut n gap words) (keyOut (frame words) n keys)) × (held (s′ .tree) ≡ leave tag (held d))
+      go none good once linked st h = absurd h
+      go (some t) good once linked st o = gone-held words keys tag cut n gap t good once linked st o

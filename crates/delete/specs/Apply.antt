@@ -1,0 +1,72 @@
+-- The words that a plan makes, and what must hold for it.
+use Prim.Native.Nat.{ℕ, _+_, _-_, _≤_, _<_}
+use mathlib.Core.Path.{_≡_}
+use mathlib.Core.List.{List}
+use mathlib.Core.Bool.{true}
+use Rattle.prefix.specs.Run.{mergeOf}
+use Rattle.frames.specs.Frame.{countWord}
+use Rattle.frames.specs.Place.{placeAt, inPool, recordAt}
+use Rattle.frames.specs.declared.frame.Frame.{Frame}
+use Rattle.records.specs.Own.{prefixAt}
+use Rattle.art.specs.Stores.{Place, leaf-place, inner-place}
+use Rattle.pools.specs.Link.{LeafOrEnd, setTrailer}
+use Rattle.points.specs.declared.insert_point.Up.{Up}
+use Rattle.points.specs.There.{InnerHere, HasChild, UpThere}
+use Rattle.writes.specs.At.{removeAt, prefixedAt, dropAt, clearAt, Drops}
+use Rattle.writes.specs.Leaf.{leafOut}
+use Rattle.writes.specs.Above.{linkUp}
+use Rattle.writes.specs.declared.leaf_node.Gap.{Gap}
+use Rattle.delete.specs.declared.plan.Cut.{Cut}
+use Rattle.delete.specs.declared.plan.Cut.the-variants.{Root, Stay, Shrink, Merge}
+
+-- ── the tree ──
+-- the one child left takes over the record's prefix and the byte to it; a leaf has no prefix
+abbrev pub joinedAt : Frame → (x child : Place) (byte : ℕ) → List ℕ → List ℕ
+joinedAt f x (leaf-place n) byte words = words
+joinedAt f x (inner-place k n) byte words =
+    prefixedAt f (inner-place k n) (mergeOf (prefixAt (f .form) (recordAt f words x)) byte (prefixAt (f .form) (recordAt f words (inner-place k n)))) words
+
+unfoldable pub merged : Frame → (x child : Place) (byte : ℕ) → List ℕ → List ℕ
+merged f x child byte words = clearAt f x (joinedAt f x child byte words)
+
+-- a record moved into a smaller one, without a child
+unfoldable pub shrunk : Frame → (old new : Place) (byte : ℕ) → List ℕ → List ℕ
+shrunk f old new byte words = clearAt f old (dropAt f old new byte words)
+
+unfoldable pub pruned : Frame → Cut → List ℕ → List ℕ
+pruned f Root words = setTrailer 11 0 words
+pruned f (Stay ref byte) words = removeAt f (placeAt ref) byte words
+pruned f (Shrink upper old new byte) words = linkUp f upper new (shrunk f (placeAt old) (placeAt new) byte words)
+pruned f (Merge upper ref child byte) words = linkUp f upper child (merged f (placeAt ref) (placeAt child) byte words)
+
+-- ── all of it: the tree, the list and the leaf, the tag count ──
+unfoldable pub goneWords : Frame → Cut → ℕ → Gap → List ℕ → List ℕ
+goneWords f cut n gap words = setTrailer 14 (countWord words - 1) (leafOut f n (gap .previous) (gap .next) (pruned f cut words))
+
+-- ── what must hold ──
+abbrev pub JoinReady : Frame → List ℕ → Place → Type 0
+JoinReady f words (leaf-place n) = Unit {0}
+JoinReady f words (inner-place k n) = InnerHere f words (inner-place k n)
+
+pub record MergeReady (f : Frame) (words : List ℕ) (upper : Up) (ref child byte : ℕ) : Type 0 where
+  pub here : InnerHere f words (placeAt ref)
+  pub child-ready : JoinReady f words (placeAt child)
+  pub low : byte < 256
+  pub above : UpThere f (merged f (placeAt ref) (placeAt child) byte words) upper
+
+pub record ShrinkReady (f : Frame) (words : List ℕ) (upper : Up) (old new byte : ℕ) : Type 0 where
+  pub drops : Drops f words (placeAt old) (placeAt new) byte
+  pub above : UpThere f (shrunk f (placeAt old) (placeAt new) byte words) upper
+
+abbrev pub CutReady : Frame → List ℕ → Cut → Type 0
+CutReady f words Root = Unit {0}
+CutReady f words (Stay ref byte) = HasChild f words (placeAt ref) byte
+CutReady f words (Shrink upper old new byte) = ShrinkReady f words upper old new byte
+CutReady f words (Merge upper ref child byte) = MergeReady f words upper ref child byte
+
+pub record OutReady (f : Frame) (words : List ℕ) (cut : Cut) (n : ℕ) (gap : Gap) : Type 0 where
+  pub cut-ready : CutReady f words cut
+  pub pool : inPool f (leaf-place n) ≡ true
+  pub before : LeafOrEnd f (gap .previous)
+  pub after : LeafOrEnd f (gap .next)
+  pub counted : 1 ≤ countWord words

@@ -1,0 +1,4 @@
+pub mod Answer
+pub mod Plan
+pub mod Apply
+pub mod Delete

@@ -1,0 +1,125 @@
+-- Insert on a sound block does what the sorted list says: a held tag's total is overwritten, a tag that clashes or has no room is refused with no byte changed, and any other is put in.
+use Prim.Native.Nat.{ℕ, _≤_, _/_}
+use mathlib.Core.Path.{_≡_, refl, sym, ap, subst, _∙_}
+use mathlib.Core.List.{List}
+use mathlib.Core.Option.{some}
+use mathlib.Core.Bool.{Bool, true, false}
+use native.Mathlib.Omega.{arith}
+use lib.ListN.{length, getD}
+use borrow.Author.Tests.{le-ltb}
+use Rattle.lists.specs.Scan.{choose}
+use Rattle.frames.specs.Form.{formOf}
+use Rattle.frames.specs.Frame.{trailerOf, frameFits, frameOf}
+use Rattle.frames.specs.Place.{recordAt}
+use Rattle.frames.specs.declared.form.Form.{Form}
+use Rattle.frames.specs.declared.frame.Frame.{Frame}
+use Rattle.frames.proofs.FormTable.{form-in}
+use Rattle.frames.proofs.Frames.{totals}
+use Rattle.records.specs.Own.{totalOf}
+use Rattle.records.specs.View.{Held}
+use Rattle.art.specs.Tags.{Tag}
+use Rattle.art.specs.Listings.{lookup}
+use Rattle.art.specs.Puts.{put, alter}
+use Rattle.art.specs.Deletes.{held}
+use Rattle.art.specs.Verdicts.{known, clash, free, judge}
+use Rattle.art.specs.Stores.{leaf-place}
+use Rattle.art.specs.Points.{store-of}
+use Rattle.pools.specs.Pool.{lowestFree}
+use Rattle.whole.specs.Marks.{placesIn}
+use Rattle.whole.specs.Check as check
+use Rattle.whole.specs.declared.check.Checked.the-variants as checked
+use Rattle.whole.specs.Sound.{frame, Sound}
+use Rattle.whole.proofs.Sounds.{sound-whole}
+use Rattle.reading.specs.Answers.{Bytes}
+use Rattle.insert.specs.declared.answer.Inserted.{Inserted}
+use Rattle.insert.specs.declared.answer.Inserted.the-variants as inserted
+use Rattle.insert.specs.declared.plan.Plan.{Plan}
+use Rattle.insert.specs.declared.plan.Plan.the-variants.{Over, New, Clash, NoLeaf, NoRecord, Broken}
+use Rattle.insert.specs.Plan.{planOf}
+use Rattle.insert.specs.Insert.{Out, out, planned, insertSound, insertChecked, insertOf}
+use Rattle.insert.proofs.Plans.{plan-new}
+use Rattle.insert.proofs.Sounds.{insert-sound}
+use Rattle.insert.proofs.Overs.{newTotal, over-held, over-sound}
+use Rattle.insert.proofs.Refusals.{LeavesFull, Lacking, Answers, plan-answers}
+
+-- ── what may come of a call ──
+-- the tag was held: its old total is returned, and it has the new one
+pub record Overwrites {words keys : List ℕ} (s : Sound words keys) (tag : Tag) (total : ℕ) (o : Out) : Type 0 where
+  pub old : Held
+  pub was : lookup tag (held (s .tree)) ≡ some old
+  pub answers : o .answer ≡ inserted.Over (old .total)
+  pub sound : Sound (o .words) (o .keys)
+  pub holds : held (sound .tree) ≡ alter (λ h. some (newTotal total h)) tag (held (s .tree))
+
+-- the tag is put in, in the lowest free leaf
+pub record PutsIn {words keys : List ℕ} (s : Sound words keys) (tag : Tag) (total : ℕ) (o : Out) : Type 0 where
+  pub answers : o .answer ≡ inserted.New
+  pub sound : Sound (o .words) (o .keys)
+  pub holds : held (sound .tree) ≡ put tag (record { number = lowestFree (frame words) words 5; total = total }) (held (s .tree))
+
+-- nothing is changed
+pub record Refuses (words keys : List ℕ) (r : Inserted) (o : Out) : Type 0 where
+  pub answers : o .answer ≡ r
+  pub words-kept : o .words ≡ words
+  pub keys-kept : o .keys ≡ keys
+
+pub data Meets {words keys : List ℕ} (s : Sound words keys) (tag : Tag) (total : ℕ) (o : Out) : Type 0 where
+  overwrites : judge tag (held (s .tree)) ≡ known → Overwrites s tag total o → Meets s tag total o
+  clashes : judge tag (held (s .tree)) ≡ clash → Refuses words keys inserted.Clash o → Meets s tag total o
+  no-leaf : judge tag (held (s .tree)) ≡ free → LeavesFull (frame words) (store-of (s .tree)) → Refuses words keys inserted.NoLeaf o → Meets s tag total o
+  no-record : judge tag (held (s .tree)) ≡ free → ¬ LeavesFull (frame words) (store-of (s .tree)) → Lacking (frame words) (s .tree) tag → Refuses words keys inserted.NoRecord o → Meets s tag total o
+  puts-in : judge tag (held (s .tree)) ≡ free → ¬ LeavesFull (frame words) (store-of (s .tree)) → ¬ Lacking (frame words) (s .tree) tag → PutsIn s tag total o → Meets s tag total o
+
+-- ── the plan applied ──
+module _ {words keys : List ℕ} (s : Sound words keys) (tag : List ℕ) (tag-bytes : Bytes tag) (key-bytes : Bytes keys) (short : length tag ≤ frame words .form .limit) (scratch : List ℕ) (total : ℕ) where
+  abbrev f : Frame
+  f = frame words
+
+  plan-meets : (p : Plan) → planOf f words keys tag ≡ p → Answers (judge tag (held (s .tree))) (LeavesFull f (store-of (s .tree))) (Lacking f (s .tree) tag) p
+      → Meets s tag total (planned f words keys scratch tag total p)
+  plan-meets (Over leaf) e h =
+      let done = over-sound s tag tag-bytes leaf e total in
+      overwrites h (record { old = record { number = leaf / 8; total = totalOf (recordAt f words (leaf-place (leaf / 8))) }; was = over-held s tag tag-bytes leaf e; answers = refl; sound = done .0; holds = done .1 })
+  plan-meets (New site n gap) e h =
+      let done = insert-sound s tag tag-bytes key-bytes short site n gap total e in
+      puts-in (h .0) (h .1) (h .2) (record {
+        answers = refl;
+        sound = done .0;
+        holds = done .1 ∙ ap (λ (m : ℕ). put tag (record { number = m; total = total }) (held (s .tree))) (sym (plan-new f words keys tag site n gap e .number));
+      })
+  plan-meets Clash e h = clashes h (record { answers = refl; words-kept = refl; keys-kept = refl })
+  plan-meets NoLeaf e h = no-leaf (h .0) (h .1) (record { answers = refl; words-kept = refl; keys-kept = refl })
+  plan-meets NoRecord e h = no-record (h .0) (h .1) (h .2) (record { answers = refl; words-kept = refl; keys-kept = refl })
+  plan-meets Broken e h = absurd h
+
+-- ── the call ──
+-- every known form has the limit that insert tests, since form 1 is the only one
+pub one-form : (words keys : List ℕ) → frameFits words keys ≡ true → frame words .form ≡ formOf 1
+unfolding frameOf
+one-form words keys fits =
+    let k = form-in (getD (trailerOf words) 0 0) (totals words keys fits .known) in
+    ap formOf (let e : getD (trailerOf words) 0 0 ≡ 1 = omega (arith, k) in e)
+
+-- with scratch enough the check finds the block sound
+checked-sound : {words keys : List ℕ} → Sound words keys → (scratch : List ℕ) → placesIn (frame words) ≤ length scratch
+    → check.checkOf words keys scratch ≡ check.answer checked.Sound (check.cleared (placesIn (frame words)) scratch)
+unfolding check.checkOf check.wholeOf
+checked-sound {words} {keys} s scratch h =
+    let f : Frame = frame words in
+    let whole : check.wholeBy f words keys ≡ true = ap (λ (b : Bool). choose b (check.wholeBy f words keys) false) (sym (s .fits)) ∙ sound-whole words keys s in
+    simp (s .fits, le-ltb (length scratch) (placesIn f) h, whole)
+
+on-sound : {words keys : List ℕ} → Sound words keys → (scratch tag : List ℕ) (total : ℕ) → placesIn (frame words) ≤ length scratch → length tag ≤ formOf 1 .limit
+    → insertOf words keys scratch tag total ≡ planned (frame words) words keys (check.cleared (placesIn (frame words)) scratch) tag total (planOf (frame words) words keys tag)
+unfolding insertOf insertChecked insertSound
+on-sound {words} {keys} s scratch tag total h short =
+    ap (λ (b : Bool). choose b (out inserted.TooLong words keys scratch) (insertChecked words keys tag total (check.checkOf words keys scratch))) (le-ltb (formOf 1 .limit) (length tag) short)
+    ∙ ap (insertChecked words keys tag total) (checked-sound s scratch h)
+
+-- on every sound block, with scratch enough, insert of a tag of 64 bytes or fewer does one of the five, each where its condition holds
+pub insert-meets : {words keys : List ℕ} (s : Sound words keys) (scratch tag : List ℕ) (total : ℕ) → Bytes tag → Bytes keys → placesIn (frame words) ≤ length scratch → length tag ≤ formOf 1 .limit
+    → Meets s tag total (insertOf words keys scratch tag total)
+insert-meets {words} {keys} s scratch tag total tag-bytes key-bytes h short =
+    subst (Meets s tag total) (sym (on-sound s scratch tag total h short))
+    (plan-meets s tag tag-bytes key-bytes (subst (λ (g : Form). length tag ≤ g .limit) (sym (one-form words keys (s .fits))) short) (check.cleared (placesIn (frame words)) scratch) total
+    (planOf (frame words) words keys tag) refl (plan-answers s tag tag-bytes))

@@ -1,0 +1,37 @@
+-- The code's count of agreeing bytes and its tests of lengths are the mathematics': both run along two lists in the same way.
+use Prim.Native.Nat.{ℕ, suc, _≤_}
+use mathlib.Core.Path.{_≡_, refl, ap, _∙_}
+use mathlib.Core.Logic.{ite}
+use mathlib.Core.List.{List, [], _∷_}
+use mathlib.Core.Bool.{Bool}
+use native.Mathlib.Omega.{arith}
+use native.Mathlib.Decide.{ℕ-discrete, decLe}
+use borrow.Author.Tests.{le-leb, lt-leb, eq-eqb, ne-eqb}
+use lib.Dec.{eqb, leb}
+use Rattle.lists.specs.Scan.{choose}
+use Rattle.lists.specs.Compare.{shared}
+use Rattle.lists.proofs.Scans.{pick}
+use Rattle.lists.proofs.Compares.{shared-swap}
+use Rattle.art.specs.Points.{agreed}
+
+-- the bytes that two lists share are those that agree
+pub shared-agreed : (s t : List ℕ) → shared s t ≡ agreed s t
+shared-agreed [] t = refl
+shared-agreed (x ∷ s) [] = refl
+shared-agreed (x ∷ s) (y ∷ t) = go (ℕ-discrete x y) (shared-agreed s t)
+  where
+    go : (d : Dec (x ≡ y)) → shared s t ≡ agreed s t → pick (eqb x y) (suc (shared s t)) 0 ≡ ite d (suc (agreed s t)) 0
+    go (yes e) ih = ap (λ (b : Bool). pick b (suc (shared s t)) 0) (eq-eqb x y e) ∙ ap suc ih
+    go (no n) ih = ap (λ (b : Bool). pick b (suc (shared s t)) 0) (ne-eqb x y n)
+
+-- in either order
+pub shared-agreed-swap : (s t : List ℕ) → shared s t ≡ agreed t s
+shared-agreed-swap s t = shared-swap s t ∙ shared-agreed t s
+
+-- what is made of a choice by the test is a choice by the fact
+pub choose-le : {X Y : Type 0} (g : X → Y) (a b : ℕ) (x y : X) → g (choose (leb a b) x y) ≡ ite (decLe a b) (g x) (g y)
+choose-le {X} {Y} g a b x y = go (decLe a b)
+  where
+    go : (d : Dec (a ≤ b)) → g (choose (leb a b) x y) ≡ ite d (g x) (g y)
+    go (yes h) = ap (λ (t : Bool). g (choose t x y)) (le-leb a b h)
+    go (no n) = ap (λ (t : Bool). g (choose t x y)) (lt-leb a b (omega arith))

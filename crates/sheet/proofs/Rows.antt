@@ -1,0 +1,45 @@
+-- The bench sheet holds: its rows have no variables, so that the definitions of the calls compute to what each row says.
+use mathlib.Core.Path.{_≡_, refl}
+use native.Mathlib.Decide.{ℕ-discrete}
+use Rattle.prefix.specs.Run.{prefixOf, splitOf, mergeOf}
+use Rattle.prefix.specs.Match.{matchOf}
+use Rattle.lists.specs.Part.{splice}
+use Rattle.lists.specs.Edit.{shiftIn, shiftOut}
+use Rattle.frames.specs.Kind.{kindRow}
+use Rattle.frames.specs.Form.{formKnown, formOf, storedOf}
+use Rattle.frames.specs.Frame.{formFits, trailerFits, frameFits, frameOf}
+use Rattle.records.specs.Own.{prefixAt, headOk, sortedOk, bodyOk, innerOk, sortedChild, childOf, childAt, leafOk, totalOf}
+use Rattle.records.specs.Row.{bodyRow}
+use Rattle.records.specs.View.{cellOf}
+use Rattle.edits.specs.Head.{setPrefix, setHead}
+use Rattle.edits.specs.Body.{sortedAdd, sortedRemove, bodyAdd, bodyRemove, sortedBody, bodyOf}
+use Rattle.edits.specs.Record.{addOf, removeOf, buildRec}
+use Rattle.pools.specs.Pool.{lowestFree, freeKind}
+use Rattle.pools.specs.Link.{setTrailer, setNext, setPrevious}
+use Rattle.pools.specs.Leaf.{leafWords, keyBytes}
+use Rattle.pools.specs.Start.{startFits, trailerWords, startOf}
+use Rattle.tree.specs.Arrive.{arrivalAt, withFrame}
+use Rattle.tree.specs.Edge.{edgeRef, edgeStep, edgeOf}
+use Rattle.tree.specs.Walk as walk
+use Rattle.whole.specs.Marks.{placesIn, fresh, reached}
+use Rattle.whole.specs.Witness.{tagAt, goesOn, storedAgrees}
+use Rattle.whole.specs.Visit.{leafVisit, turnAt, rowEnd, rowBy, recordBy}
+use Rattle.whole.specs.Sweep.{sweptAt, sweptPool, swept}
+use Rattle.whole.specs.Check.{rootWay, wayWell, wholeBy, checkOf}
+use Rattle.range.specs.Range as range
+use Rattle.points.specs.Point as points
+use Rattle.writes.specs.At.{addAt, removeAt, prefixedAt, branchAt, clearAt}
+use Rattle.writes.specs.Leaf.{leafIn, keyIn, leafOut, keyOut}
+use Rattle.insert.specs.Plan as insert-plan
+use Rattle.insert.specs.Apply.{forked, hung, newWords}
+use Rattle.insert.specs.Insert.{insertSound, insertChecked, insertOf}
+use Rattle.delete.specs.Plan as delete-plan
+use Rattle.delete.specs.Apply.{merged, pruned, goneWords}
+use Rattle.delete.specs.Delete.{deleteSound, deleteChecked, deleteOf}
+use Rattle.art.specs.Tags.{order, tag-dec, begins-dec}
+use Rattle.sheet.specs.Sheet.{step, givenFrom, wantedOf, given, wanted, rows}
+
+-- rows a to l, with every block on the way sound
+pub sheet : given rows ≡ wanted rows
+unfolding prefixOf splitOf mergeOf matchOf splice shiftIn shiftOut kindRow formKnown formOf storedOf formFits trailerFits frameFits frameOf prefixAt headOk sortedOk bodyOk innerOk sortedChild childOf childAt leafOk totalOf bodyRow cellOf setPrefix setHead sortedAdd sortedRemove bodyAdd bodyRemove sortedBody bodyOf addOf removeOf buildRec lowestFree freeKind setTrailer setNext setPrevious leafWords keyBytes startFits trailerWords startOf arrivalAt withFrame edgeRef edgeStep edgeOf walk.leafAnswer walk.innerStep walk.stepOf walk.walkOf placesIn fresh reached tagAt goesOn storedAgrees leafVisit turnAt rowEnd rowBy recordBy sweptAt sweptPool swept rootWay wayWell wholeBy checkOf range.below range.leafStep range.stepOf range.afterFrom range.afterOf points.leafPoint points.runOf points.innerStep points.stepOf points.pointFrom points.pointOf addAt removeAt prefixedAt branchAt clearAt leafIn keyIn leafOut keyOut insert-plan.intoChoice insert-plan.forkChoice insert-plan.leafPlan insert-plan.pointPlan insert-plan.planOf forked hung newWords insertSound insertChecked insertOf delete-plan.otherEntry delete-plan.cutUnder delete-plan.pointPlan delete-plan.planOf merged pruned goneWords deleteSound deleteChecked deleteOf order tag-dec begins-dec ℕ-discrete step givenFrom wantedOf given wanted rows
+sheet = refl

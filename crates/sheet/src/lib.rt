@@ -1,0 +1,1 @@
+// The bench sheet, computed: mathematics, no code.

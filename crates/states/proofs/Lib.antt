@@ -1,0 +1,6 @@
+pub mod Children
+pub mod OneCell
+pub mod Standing
+pub mod Links
+pub mod Steps
+pub mod Sounds

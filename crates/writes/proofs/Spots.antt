@@ -1,0 +1,142 @@
+-- A record is a part of the words, so what is done to the part is done at the place; and the form of a fitting frame stores eight prefix bytes.
+use Prim.Native.Nat.{ℕ, _+_, _-_, _*_, _%_, _/_, _≤_, _<_}
+use mathlib.Core.Path.{_≡_, refl, sym, ap, ap₂, subst, _∙_}
+use mathlib.Core.List.{List}
+use mathlib.Core.Bool.{Bool, true, false}
+use native.Mathlib.Omega.{arith}
+use lib.ListN.{length, getD}
+use lib.Dec.{eqb}
+use borrow.Author.Tests.{eqb-true, ltb-true}
+use Rattle.lists.specs.Scan.{choose, count, nonzero}
+use Rattle.lists.specs.Part.{between, splice}
+use Rattle.prefix.specs.declared.Prefix.{Prefix}
+use Rattle.frames.specs.Kind.{childrenOf}
+use Rattle.frames.specs.Form.{forms, noForm, formKnown, formOf, recordWords}
+use Rattle.frames.specs.Frame.{FrameOf, frameOf, trailerOf}
+use Rattle.frames.specs.Place.{placeAt, inPool, startAt, sizeAt, recordAt, putAt, putKey}
+use Rattle.frames.specs.declared.frame.Frame.{Frame}
+use Rattle.frames.proofs.FormTable.{form-in, form-rules}
+use Rattle.frames.proofs.Frames.{framed, totals}
+use Rattle.frames.proofs.Places.{place-room, record-length, key-length}
+use Rattle.records.specs.Own.{prefixAt}
+use Rattle.records.proofs.Owns.{inner-rule}
+use Rattle.art.specs.Stores.{Place, leaf-place, inner-place}
+use Rattle.pools.proofs.Lowest.{caps-most}
+use Rattle.view.specs.Cells.{kindAt}
+use Rattle.points.specs.There.{InnerHere}
+use Rattle.writes.specs.At.{InnerPlace}
+
+-- the kind of the place that a reference names
+pub kind-by : (ref : ℕ) → ref % 8 ≡ kindAt (placeAt ref)
+kind-by ref = go (eqb (ref % 8) 5) refl
+  where
+    go : (b : Bool) → eqb (ref % 8) 5 ≡ b → ref % 8 ≡ kindAt (choose b (leaf-place (ref / 8)) (inner-place (ref % 8) (ref / 8)))
+    go true e = eqb-true _ _ e
+    go false e = refl
+
+-- an inner record's place has the size of its kind
+pub inner-size : (f : Frame) (x : Place) → kindAt x ≤ 4 → sizeAt f x ≡ recordWords (f .form) (kindAt x)
+inner-size f (leaf-place n) h = absurd (omega arith)
+inner-size f (inner-place k n) h = refl
+
+-- a record that is there has a place
+pub here-place : {f : Frame} {words : List ℕ} {x : Place} → InnerHere f words x → InnerPlace f x
+here-place h = record { pool = h .pool; low = h .fits .low; high = h .fits .high }
+
+-- the kind and the room of an inner place that a reference names
+pub record Room (f : Frame) (words : List ℕ) (ref : ℕ) : Type 0 where
+  pub low : 1 ≤ ref % 8
+  pub high : ref % 8 ≤ 4
+  pub size : sizeAt f (placeAt ref) ≡ recordWords (f .form) (ref % 8)
+  pub ends : startAt f (placeAt ref) + recordWords (f .form) (ref % 8) + 16 ≤ length words
+
+pub room-of : {f : Frame} {words keys : List ℕ} → FrameOf f words keys → (ref : ℕ) → InnerPlace f (placeAt ref) → Room f words ref
+room-of {f} {words} {keys} w ref h =
+    let e = kind-by ref in
+    let z : sizeAt f (placeAt ref) ≡ recordWords (f .form) (ref % 8) = inner-size f (placeAt ref) (h .high) ∙ ap (recordWords (f .form)) (sym e) in
+    record {
+      low = subst (λ (k : ℕ). 1 ≤ k) (sym e) (h .low);
+      high = subst (λ (k : ℕ). k ≤ 4) (sym e) (h .high);
+      size = z;
+      ends = subst (λ (s : ℕ). startAt f (placeAt ref) + s + 16 ≤ length words) z (place-room w (placeAt ref) (h .pool));
+    }
+
+-- a record's prefix is no longer than the form's limit
+pub prefix-short : {f : Frame} {words : List ℕ} {x : Place} → InnerHere f words x → prefixAt (f .form) (recordAt f words x) .full .0 ≤ f .form .limit
+unfolding prefixAt
+prefix-short {f} {words} {x} h = inner-rule (f .form) (kindAt x) (recordAt f words x) (h .fits .ok) .head .short
+
+-- the part from a to e is the record at x
+module _ (f : Frame) (words : List ℕ) (x : Place) {a e : ℕ} (start : a ≡ startAt f x) (end : e ≡ startAt f x + sizeAt f x) where
+  pub part-record : between words a e ≡ recordAt f words x
+  part-record = ap₂ (between words) start end
+
+  pub part-put : (p : List ℕ) → splice words a e p ≡ putAt f words x p
+  part-put p = ap₂ (λ (i j : ℕ). splice words i j p) start end
+
+-- of a record by its reference
+module _ (f : Frame) (words : List ℕ) (ref : ℕ) {a e : ℕ} (start : a ≡ startAt f (placeAt ref)) (end : e ≡ startAt f (placeAt ref) + sizeAt f (placeAt ref)) where
+  -- what holds of the record holds of the part
+  pub part-has : (P : ℕ → List ℕ → Type 0) → P (kindAt (placeAt ref)) (recordAt f words (placeAt ref)) → P (ref % 8) (between words a e)
+  part-has P h =
+      subst (λ (k : ℕ). P k (between words a e)) (sym (kind-by ref))
+      (subst (P (kindAt (placeAt ref))) (sym (part-record f words (placeAt ref) start end)) h)
+
+  -- what is made of the part is made of the record
+  pub part-made : (g : ℕ → List ℕ → List ℕ) (p : List ℕ) → p ≡ g (ref % 8) (between words a e)
+      → splice words a e p ≡ putAt f words (placeAt ref) (g (kindAt (placeAt ref)) (recordAt f words (placeAt ref)))
+  part-made g p made =
+      part-put f words (placeAt ref) start end p
+      ∙ ap (putAt f words (placeAt ref)) (made ∙ ap₂ g (kind-by ref) (part-record f words (placeAt ref) start end))
+
+-- the words of an inner place
+pub record-long : {f : Frame} {words keys : List ℕ} → FrameOf f words keys → (x : Place) → InnerPlace f x → length (recordAt f words x) ≡ recordWords (f .form) (kindAt x)
+record-long {f} {words} {keys} w x h = record-length w x (h .pool) ∙ inner-size f x (h .high)
+
+-- ── the form ──
+known-eight : (n : ℕ) → formKnown n ≡ true → formOf n .prefix ≡ 8
+unfolding formOf
+known-eight n e =
+    let q : n - 1 < 1 = form-in n e .1 in
+    ap (λ (m : ℕ). getD forms m noForm .prefix) (let z : n - 1 ≡ 0 = omega arith in z)
+
+pub frame-eight : {f : Frame} {words keys : List ℕ} → FrameOf f words keys → f .form .prefix ≡ 8
+unfolding frameOf
+frame-eight {f} {words} {keys} w =
+    ap (λ (g : Frame). g .form .prefix) (w .read) ∙ known-eight (getD (trailerOf words) 0 0) (totals words keys (w .fits) .known)
+
+-- a record can be built at the part, from these places
+pub build-ready : {f : Frame} {words keys : List ℕ} → FrameOf f words keys → (ref a e : ℕ) → a ≡ startAt f (placeAt ref)
+    → e ≡ startAt f (placeAt ref) + sizeAt f (placeAt ref) → InnerPlace f (placeAt ref) → (p : Prefix) → length (p .stored) ≡ 8
+    → (t : List ℕ) → length t ≡ 256 → count nonzero t ≤ childrenOf (kindAt (placeAt ref))
+    → (((1 ≤ ref % 8) × (ref % 8 ≤ 4)) × (length (between words a e) ≡ recordWords (f .form) (ref % 8)))
+    × (((f .form .prefix ≡ 8) × (length (p .stored) ≡ 8)) × ((length t ≡ 256) × (count nonzero t ≤ childrenOf (ref % 8))))
+build-ready {f} {words} {keys} w ref a e start end h p stored t long few =
+    let r = room-of w ref h in
+    (((r .low, r .high), part-has f words ref start end (λ (k : ℕ) (l : List ℕ). length l ≡ recordWords (f .form) k) (record-long w (placeAt ref) h)), ((frame-eight w, stored), (long, subst (λ (k : ℕ). count nonzero t ≤ childrenOf k) (sym (kind-by ref)) few)))
+
+-- ── leaves ──
+-- the number of a leaf of the pool is small
+pub leaf-small : {f : Frame} {words keys : List ℕ} → FrameOf f words keys → (n : ℕ) → inPool f (leaf-place n) ≡ true → n < 4096
+leaf-small {f} {words} {keys} w n e = omega (arith, ltb-true n (getD (f .caps) 5 0) e, caps-most (framed w) 5 (omega arith))
+
+-- and so is a tag's length
+pub limit-small : {f : Frame} {words keys : List ℕ} → FrameOf f words keys → f .form .limit ≤ 128
+unfolding frameOf
+limit-small {f} {words} {keys} w =
+    subst (λ (g : Frame). g .form .limit ≤ 128) (sym (w .read)) (form-rules (getD (trailerOf words) 0 0) (totals words keys (w .fits) .known) .limit)
+
+-- a leaf's key bytes are a part of the key bytes
+module _ {f : Frame} {words keys : List ℕ} (w : FrameOf f words keys) (n : ℕ) (h : inPool f (leaf-place n) ≡ true) {a : ℕ} (start : a ≡ n * f .form .limit) where
+  pub key-long : length (between keys a (a + f .form .limit)) ≡ f .form .limit
+  key-long = ap (λ (i : ℕ). length (between keys i (i + f .form .limit))) start ∙ key-length w n h
+
+  pub key-put : (p q : List ℕ) → p ≡ q → splice keys a (a + f .form .limit) p ≡ putKey f keys n q
+  key-put p q e = ap₂ (λ (i : ℕ) (l : List ℕ). splice keys i (i + f .form .limit) l) start e
+
+-- a frame fits words and key bytes that equal those that it fits
+pub fits-words : {f : Frame} {l m keys : List ℕ} → FrameOf f l keys → m ≡ l → FrameOf f m keys
+fits-words {f} {l} {m} {keys} w e = subst (λ (x : List ℕ). FrameOf f x keys) (sym e) w
+
+pub fits-keys : {f : Frame} {words l m : List ℕ} → FrameOf f words l → m ≡ l → FrameOf f words m
+fits-keys {f} {words} {l} {m} w e = subst (FrameOf f words) (sym e) w

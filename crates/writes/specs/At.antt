@@ -1,0 +1,76 @@
+-- Inner records of a block changed where they stand, each by its place; and what must hold of a record for it.
+use Prim.Native.Nat.{ℕ, _+_, _≤_, _<_}
+use mathlib.Core.Path.{_≡_}
+use mathlib.Core.List.{List}
+use mathlib.Core.Bool.{true}
+use lib.ListN.{getD, set, replicate}
+use Rattle.prefix.specs.declared.Prefix.{Prefix}
+use Rattle.frames.specs.Kind.{childrenOf}
+use Rattle.frames.specs.Place.{inPool, sizeAt, recordAt, putAt}
+use Rattle.frames.specs.declared.frame.Frame.{Frame}
+use Rattle.records.specs.Own.{prefixAt}
+use Rattle.records.specs.Row.{directRow}
+use Rattle.art.specs.Stores.{Place}
+use Rattle.edits.specs.Head.{setPrefix}
+use Rattle.edits.specs.Record.{addOf, removeOf, replaceOf, spreadOf, buildRec}
+use Rattle.edits.specs.Rows.{rowPair}
+use Rattle.view.specs.Cells.{kindAt}
+use Rattle.points.specs.There.{InnerHere, HasChild}
+
+-- a child more for a byte
+unfoldable pub addAt : Frame → Place → ℕ → ℕ → List ℕ → List ℕ
+addAt f x byte ref words = putAt f words x (addOf (f .form) (kindAt x) (recordAt f words x) byte ref)
+
+-- the child for a byte taken out
+unfoldable pub removeAt : Frame → Place → ℕ → List ℕ → List ℕ
+removeAt f x byte words = putAt f words x (removeOf (f .form) (kindAt x) (recordAt f words x) byte)
+
+-- another reference for the child for a byte
+unfoldable pub replaceAt : Frame → Place → ℕ → ℕ → List ℕ → List ℕ
+replaceAt f x byte ref words = putAt f words x (replaceOf (f .form) (kindAt x) (recordAt f words x) byte ref)
+
+-- another prefix
+unfoldable pub prefixedAt : Frame → Place → Prefix → List ℕ → List ℕ
+prefixedAt f x p words = putAt f words x (setPrefix (f .form) p (recordAt f words x))
+
+-- a new branching with this prefix and two children
+unfoldable pub branchAt : Frame → Place → Prefix → (b r c s : ℕ) → List ℕ → List ℕ
+branchAt f x p b r c s words = putAt f words x (buildRec (f .form) (kindAt x) p (rowPair b r c s))
+
+-- the prefix and the children of the record at x, written anew at y
+unfoldable pub moveAt : Frame → Place → Place → List ℕ → List ℕ
+moveAt f x y words =
+    putAt f words y (buildRec (f .form) (kindAt y) (prefixAt (f .form) (recordAt f words x)) (directRow (spreadOf (f .form) (kindAt x) (recordAt f words x))))
+
+-- the same without the child for a byte
+unfoldable pub dropAt : Frame → Place → Place → ℕ → List ℕ → List ℕ
+dropAt f x y byte words =
+    putAt f words y (buildRec (f .form) (kindAt y) (prefixAt (f .form) (recordAt f words x)) (directRow (set (spreadOf (f .form) (kindAt x) (recordAt f words x)) byte 0)))
+
+-- freed
+unfoldable pub clearAt : Frame → Place → List ℕ → List ℕ
+clearAt f x words = putAt f words x (replicate (sizeAt f x) 0)
+
+-- ── what must hold ──
+-- it has room for a child
+pub record Roomy (f : Frame) (words : List ℕ) (x : Place) : Type 0 where
+  pub here : InnerHere f words x
+  pub room : getD (recordAt f words x) 1 0 < childrenOf (kindAt x)
+
+-- an inner record's place in a pool
+pub record InnerPlace (f : Frame) (x : Place) : Type 0 where
+  pub pool : inPool f x ≡ true
+  pub low : 1 ≤ kindAt x
+  pub high : kindAt x ≤ 4
+
+-- the children of the record at x have room at y
+pub record Moves (f : Frame) (words : List ℕ) (x y : Place) : Type 0 where
+  pub from : InnerHere f words x
+  pub to : InnerPlace f y
+  pub room : getD (recordAt f words x) 1 0 ≤ childrenOf (kindAt y)
+
+-- and so without the child for a byte
+pub record Drops (f : Frame) (words : List ℕ) (x y : Place) (byte : ℕ) : Type 0 where
+  pub from : HasChild f words x byte
+  pub to : InnerPlace f y
+  pub room : getD (recordAt f words x) 1 0 ≤ childrenOf (kindAt y) + 1
