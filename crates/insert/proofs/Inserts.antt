@@ -36,39 +36,13 @@ use Rattle.insert.specs.declared.answer.Inserted.the-variants as inserte
 use Rattle.insert.specs.declared.plan.Plan.{Plan}
 use Rattle.insert.specs.declared.plan.Plan.the-variants.{Over, New, Clash, NoLeaf, NoRecord, Broken}
 use Rattle.insert.specs.Plan.{planOf}
+use Rattle.insert.specs.Room.{LeavesFull, Lacking, Answers}
+use Rattle.insert.specs.Meets.{Meets, overwrites, clashes, no-leaf, no-record, puts-in}
 use Rattle.insert.specs.Insert.{Out, out, planned, insertSound, insertChecked, insertOf}
 use Rattle.insert.proofs.Plans.{plan-new}
 use Rattle.insert.proofs.Sounds.{insert-sound}
-use Rattle.insert.proofs.Overs.{newTotal, over-held, over-sound}
-use Rattle.insert.proofs.Refusals.{LeavesFull, Lacking, Answers, plan-answers}
-
--- ── what may come of a call ──
--- the tag was held: its old total is returned, and it has the new one
-pub record Overwrites {words keys : List ℕ} (s : Sound words keys) (tag : Tag) (total : ℕ) (o : Out) : Type 0 where
-  pub old : Held
-  pub was : lookup tag (held (s .tree)) ≡ some old
-  pub answers : o .answer ≡ inserted.Over (old .total)
-  pub sound : Sound (o .words) (o .keys)
-  pub holds : held (sound .tree) ≡ alter (λ h. some (newTotal total h)) tag (held (s .tree))
-
--- the tag is put in, in the lowest free leaf
-pub record PutsIn {words keys : List ℕ} (s : Sound words keys) (tag : Tag) (total : ℕ) (o : Out) : Type 0 where
-  pub answers : o .answer ≡ inserted.New
-  pub sound : Sound (o .words) (o .keys)
-  pub holds : held (sound .tree) ≡ put tag (record { number = lowestFree (frame words) words 5; total = total }) (held (s .tree))
-
--- nothing is changed
-pub record Refuses (words keys : List ℕ) (r : Inserted) (o : Out) : Type 0 where
-  pub answers : o .answer ≡ r
-  pub words-kept : o .words ≡ words
-  pub keys-kept : o .keys ≡ keys
-
-pub data Meets {words keys : List ℕ} (s : Sound words keys) (tag : Tag) (total : ℕ) (o : Out) : Type 0 where
-  overwrites : judge tag (held (s .tree)) ≡ known → Overwrites s tag total o → Meets s tag total o
-  clashes : judge tag (held (s .tree)) ≡ clash → Refuses words keys inserted.Clash o → Meets s tag total o
-  no-leaf : judge tag (held (s .tree)) ≡ free → LeavesFull (frame words) (store-of (s .tree)) → Refuses words keys inserted.NoLeaf o → Meets s tag total o
-  no-record : judge tag (held (s .tree)) ≡ free → ¬ LeavesFull (frame words) (store-of (s .tree)) → Lacking (frame words) (s .tree) tag → Refuses words keys inserted.NoRecord o → Meets s tag total o
-  puts-in : judge tag (held (s .tree)) ≡ free → ¬ LeavesFull (frame words) (store-of (s .tree)) → ¬ Lacking (frame words) (s .tree) tag → PutsIn s tag total o → Meets s tag total o
+use Rattle.insert.proofs.Overs.{over-held, over-sound}
+use Rattle.insert.proofs.Refusals.{plan-answers}
 
 -- ── the plan applied ──
 module _ {words keys : List ℕ} (s : Sound words keys) (tag : List ℕ) (tag-bytes : Bytes tag) (key-bytes : Bytes keys) (short : length tag ≤ frame words .form .limit) (scratch : List ℕ) (total : ℕ) where

@@ -53,6 +53,7 @@ use Rattle.states.proofs.Steps.{state-leaf, state-total}
 use Rattle.states.proofs.Sounds.{sound-state, state-sound}
 use Rattle.pointed.specs.Told.{upTold, told}
 use Rattle.pointed.proofs.Sounds.{sound-shown}
+use Rattle.insert.specs.Meets.{newTotal}
 use Rattle.insert.specs.declared.plan.Site.the-variants.{Root}
 use Rattle.insert.specs.declared.plan.Choice.{Choice}
 use Rattle.insert.specs.declared.plan.Choice.the-variants.{At, Nowhere}
@@ -107,9 +108,6 @@ module _ (f : Frame) (words keys tag : List ℕ) (leaf : ℕ) where
       go false t h = by (eqb-false (rootWord words) 0 t) (pointOf f words keys tag (rootWord words)) refl h
 
 -- ── the total written anew ──
--- what a held tag has afterwards
-abbrev pub newTotal : ℕ → Held → Held
-newTotal total h = record { number = h .number; total = total }
 
 rooted-by : (d : Option (Tree Held)) (ref : ℕ) (x : Place) → root-of d ≡ some x → ref ≡ refOf x → Rooted ref d
 rooted-by none ref x e r = absurd (let z : _≡_ {A = ℕ} 0 1 = cc in omega arith)

@@ -56,42 +56,12 @@ use Rattle.insert.specs.declared.plan.Choice.{Choice}
 use Rattle.insert.specs.declared.plan.Choice.the-variants.{At, Nowhere}
 use Rattle.insert.specs.declared.plan.Plan.{Plan}
 use Rattle.insert.specs.declared.plan.Plan.the-variants.{Over, New, Clash, NoLeaf, NoRecord, Broken}
+use Rattle.insert.specs.Room.{LeavesFull, InnersFull, Lacks, Lacking, Answers}
 use Rattle.insert.specs.Plan.{growChoice, intoChoice, forkWith, forkChoice, newPlan, sitePlan, leafPlan, pointPlan, planOf}
 use Rattle.insert.proofs.Afters.{afterIs, after-shown}
 use Rattle.insert.proofs.Ups.{inner-here}
 use Rattle.insert.proofs.Ready.{told-point, told-fits, into-fits}
 use Rattle.insert.proofs.Hangs.{root-not}
-
--- ── what each answer says ──
--- every leaf of the pool is in use
-abbrev pub LeavesFull : Frame → Store Held → Type 0
-LeavesFull f σ = (n : ℕ) → inPool f (leaf-place n) ≡ true → Used (σ (leaf-place n))
-
--- every inner record of this kind or a larger one is in use
-abbrev pub InnersFull : Frame → Store Held → ℕ → Type 0
-InnersFull f σ kind = (k n : ℕ) → kind ≤ k → inPool f (inner-place k n) ≡ true → Used (σ (inner-place k n))
-
--- the record that a new tag needs at its point is not there: a full record has no larger one to move to, or a branching none to be made in
-abbrev pub Lacks : Frame → Store Held → art.Point → Type 0
-Lacks f σ (art.holds upper up n) = ⊥
-Lacks f σ art.clashes = ⊥
-Lacks f σ (art.into up k n x) = (childrenOf k ≤ length (cell-refs (σ (inner-place k n)))) × InnersFull f σ (suc k)
-Lacks f σ (art.fork up y w d c) = InnersFull f σ 1
-Lacks f σ art.broken = ⊥
-
--- the first tag of all needs none
-abbrev pub Lacking : Frame → Option (Tree Held) → Tag → Type 0
-Lacking f none tag = ⊥
-Lacking f (some t) tag = Lacks f (store t []) (point (suc (height t)) (store t []) (root t) tag)
-
--- by the verdict on the tag, whether all leaves are in use, and whether a record lacks
-abbrev pub Answers : Verdict → Type 0 → Type 0 → Plan → Type 0
-Answers v full lacking (Over leaf) = v ≡ known
-Answers v full lacking (New site n gap) = (v ≡ free) × (¬ full) × (¬ lacking)
-Answers v full lacking Clash = v ≡ clash
-Answers v full lacking NoLeaf = (v ≡ free) × full
-Answers v full lacking NoRecord = (v ≡ free) × (¬ full) × lacking
-Answers v full lacking Broken = ⊥
 
 -- ── a new leaf ──
 module _ {f : Frame} {words keys : List ℕ} {d : Option (Tree Held)} {root count : ℕ} (s : Shown f words keys d) (st : State f words keys (store-of d) (linksOf f words) root count)

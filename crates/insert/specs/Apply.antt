@@ -1,15 +1,13 @@
 -- The words and key bytes that a plan makes, and what must hold for it.
-use Prim.Native.Nat.{ℕ, _+_, _*_, _≤_, _<_, _^_, _%_, _/_}
+use Prim.Native.Nat.{ℕ, _+_, _≤_, _<_, _^_}
 use mathlib.Core.Path.{_≡_}
 use mathlib.Core.Logic.{_≢_}
 use mathlib.Core.List.{List}
 use mathlib.Core.Bool.{true}
 use lib.ListN.{length, getD}
-use lib.Dec.{eqb}
-use Rattle.lists.specs.Scan.{choose}
 use Rattle.lists.specs.Part.{between}
 use Rattle.prefix.specs.Run.{prefixOf, splitOf}
-use Rattle.frames.specs.Frame.{FrameOf, countWord}
+use Rattle.frames.specs.Frame.{countWord}
 use Rattle.frames.specs.Place.{placeAt, inPool, recordAt}
 use Rattle.frames.specs.declared.frame.Frame.{Frame}
 use Rattle.records.specs.Own.{prefixAt}
@@ -20,7 +18,7 @@ use Rattle.whole.specs.Witness.{tagAt, LeafSeen}
 use Rattle.points.specs.declared.insert_point.Up.{Up}
 use Rattle.points.specs.There.{InnerHere, UpThere}
 use Rattle.writes.specs.At.{addAt, prefixedAt, branchAt, moveAt, clearAt, Roomy, InnerPlace, Moves}
-use Rattle.writes.specs.Leaf.{leafIn, keyIn}
+use Rattle.writes.specs.Leaf.{leafIn}
 use Rattle.writes.specs.Above.{linkUp}
 use Rattle.insert.specs.declared.plan.Site.{Site}
 use Rattle.insert.specs.declared.plan.Site.the-variants.{Root, Add, Grow, Fork}

@@ -9,7 +9,7 @@ use Rattle.frames.specs.declared.frame.Frame.{Frame}
 use Rattle.records.specs.Own.{childAt, InnerFits}
 use Rattle.art.specs.Stores.{Place}
 use Rattle.view.specs.Cells.{kindAt}
-use Rattle.whole.specs.Witness.{tagAt, LeafSeen}
+use Rattle.whole.specs.Witness.{LeafSeen}
 use Rattle.points.specs.declared.insert_point.Up.{Up}
 use Rattle.points.specs.declared.insert_point.Up.the-variants.{Top, Via}
 use Rattle.points.specs.declared.insert_point.Point.{Point}

@@ -1,0 +1,102 @@
+#!/bin/sh
+# Puts the same command lists to the crate and to the port and compares the answers; then sees that the known differences are still those of
+# differences.txt.
+#
+#   bench/run.sh [quick]
+#
+# Needs cargo, python3, a C compiler for x86-64 and, unless LIBRARY names a static library of the port, rt. On another machine than x86-64 the port runs
+# in qemu-x86_64, or in what QEMU names. Exit status 0: no difference; 1: some; 2: something that is needed is missing.
+set -eu
+cd "$(dirname "$0")"
+out=$PWD/../target/bench
+mkdir -p "$out"
+
+missing() {
+    echo "run.sh: $1" >&2
+    exit 2
+}
+
+build_crate() {
+    command -v cargo > /dev/null || missing "no cargo, to build the crate with"
+    (cd blart && sha256sum --check --quiet supplied.sha256) || missing "a supplied file of the crate was changed"
+    cargo build --quiet --offline --manifest-path blart/Cargo.toml --target-dir "$out/cargo"
+    crate=$out/cargo/debug/driver
+}
+
+build_library() {
+    library=${LIBRARY:-$PWD/../target/staticlib/libdirectory_c.a}
+    if [ -z "${LIBRARY:-}" ] && command -v rt > /dev/null; then
+        (cd .. && rt staticlib directory_c) > "$out/staticlib.log" 2>&1 || { cat "$out/staticlib.log"; missing "rt did not write the library"; }
+    fi
+    [ -f "$library" ] || missing "no $library; 'rt staticlib directory_c' writes it"
+}
+
+# The library is for x86-64 alone, so elsewhere its program is compiled across and run in an emulator.
+build_port() {
+    if [ "$(uname -m)" = x86_64 ]; then
+        compiler="${CC:-cc} -O2" emulator=
+    else
+        compiler="x86_64-linux-gnu-gcc -O2 -static" emulator=${QEMU:-qemu-x86_64}
+        command -v "$emulator" > /dev/null || missing "this is no x86-64 machine, and there is no $emulator to run the port in (QEMU=path names one)"
+    fi
+    command -v "${compiler%% *}" > /dev/null || missing "no ${compiler%% *}, to compile port.c with"
+    $compiler -std=c11 -Wall -Wextra -I../include port.c "$library" -o "$out/port"
+}
+
+# A program that stops early leaves answers out, which the comparison counts; so its status is not looked at.
+put() {
+    "$crate" < "$1" > "$out/answers.crate" || true
+    $emulator "$out/port" < "$1" > "$out/answers.port" || true
+}
+
+# Prints how many commands have no answer or different ones, and shows the first three on stderr.
+count_differences() {
+    awk -v crate="$out/answers.crate" -v port="$out/answers.port" -v list="$1" '
+        {
+            a = b = "no answer"
+            getline a < crate
+            getline b < port
+            if (a == b && a != "no answer") next
+            if (++n <= 3) printf "%s:%d: %s\n  crate %s\n  port  %s\n", list, NR, $0, a, b > "/dev/stderr"
+        }
+        END { print n + 0 }' "$2"
+}
+
+compare_lists() {
+    lists=0 commands=0 differences=0
+    for list in "$out"/lists/*.cmd; do
+        name=$(basename "$list" .cmd)
+        put "$list"
+        here=$(wc -l < "$list")
+        differ=$(count_differences "$name" "$list")
+        echo "$name: $here commands, $differ differences"
+        lists=$((lists + 1)) commands=$((commands + here)) differences=$((differences + differ))
+    done
+}
+
+# differences.txt has commands, with the two answers indented below each that has different ones; it is written again from its own commands.
+compare_known() {
+    sed '/^ /d' differences.txt > "$out/known.cmd"
+    put "$out/known.cmd"
+    awk -v crate="$out/answers.crate" -v port="$out/answers.port" '
+        { print }
+        /^[^#]/ {
+            a = b = "no answer"
+            getline a < crate
+            getline b < port
+            if (a != b) print "    crate " a "\n    port  " b
+        }' "$out/known.cmd" > "$out/known.txt"
+    known=0
+    diff differences.txt "$out/known.txt" || known=1
+}
+
+build_crate
+build_library
+build_port
+rm -rf "$out/lists"
+python3 traces.py ${1:+"$1"} "$out/lists"
+compare_lists
+compare_known
+[ "$known" = 0 ] && echo "differences.txt: as noted" || echo "differences.txt: not as noted"
+echo "$lists lists: $commands commands, $differences differences"
+[ "$differences" = 0 ] && [ "$known" = 0 ]

@@ -1,0 +1,38 @@
+-- `all_bytes` is safe: each turn takes the next of 256 bytes and accepts one tag at most, and the lent memory keeps its lengths.
+use borrow.Author.Needs.{needs}
+use lib.ListN.{length}
+use mathlib.Core.Path.{_≡_}
+use Prim.Native.Nat.{_≤_, _-_}
+use Rattle.bench_sheet.proofs.all_bytes.Statement.{statement}
+use Rattle.bench_sheet.proofs.all_bytes.Tie as tie
+
+abbrev Inv-loop : tie.InvT-loop
+Inv-loop words₀ keys₀ scratch₀ way n₀ kind₀ byte₀ t8 words keys scratch n kind byte =
+    ((length words ≡ length words₀) × ((length keys ≡ length keys₀) × (length scratch ≡ length scratch₀))) × ((byte ≤ 256) × (n ≤ byte))
+
+abbrev μ-loop : tie.MeasureT-loop
+μ-loop words₀ keys₀ scratch₀ way n₀ kind₀ byte₀ t8 words keys scratch n kind byte = 256 - byte
+
+pub all-bytes-spec : {M : Type 1} → statement M
+all-bytes-spec =
+    tie.close
+    (tie.spec
+    Inv-loop
+    μ-loop
+    (λ c κs. search needs)
+    (λ c. search needs)
+    (λ c κs. search needs)
+    (λ c. search needs)
+    (λ c κs. search needs)
+    (λ c κs. search needs)
+    (λ c. search needs)
+    (λ c. search needs)
+    (λ c. search needs)
+    (λ c. search needs)
+    (λ c κs. search needs)
+    (λ c. search needs)
+    (λ c κs. search needs)
+    (λ c. search needs)
+    (λ c. search needs)
+    (λ c. search needs)
+    (λ c. search needs))

@@ -1,0 +1,185 @@
+-- Accepted changes to different tags draw the same tree in either order, and an unheld tag added and removed leaves the drawing: the listings are equal, and the listing decides the drawing.
+use Prim.Native.Nat.{ℕ, _≤_}
+use mathlib.Core.Path.{_≡_, refl, sym, ap, subst, _∙_, fun-ext}
+use mathlib.Core.Logic.{_≢_}
+use mathlib.Core.List.{List, []}
+use mathlib.Core.Option.{Option, none, some}
+use mathlib.Core.Bool.{true}
+use native.Mathlib.Omega.{arith}
+use lib.ListN.{length}
+use Rattle.frames.specs.Frame.{rootWord}
+use Rattle.frames.specs.Place.{placeAt, inPool}
+use Rattle.frames.proofs.Places.{place-ref}
+use Rattle.records.specs.View.{Held, cellOf}
+use Rattle.art.specs.Tags.{Tag, Listing}
+use Rattle.art.specs.Listings.{Sorted, lookup}
+use Rattle.art.specs.Puts.{put}
+use Rattle.art.specs.Trees.{Tree}
+use Rattle.art.specs.Drawings.{draw}
+use Rattle.art.specs.Deletes.{held, Sane}
+use Rattle.art.specs.Stores.{Place, Used, Once, root}
+use Rattle.art.specs.Calls.{OnceOf}
+use Rattle.art.specs.Points.{store-of}
+use Rattle.art.specs.Walks.{Shows}
+use Rattle.art.proofs.Stores.{own}
+use Rattle.art.proofs.ReadBack.{some-inj, shown-once}
+use Rattle.art.proofs.Walks.{store-shows}
+use Rattle.reading.specs.Answers.{Bytes}
+use Rattle.whole.specs.Sound.{frame, Rooted, Sound}
+use Rattle.whole.proofs.Sounds.{used-pool}
+use Rattle.insert.specs.Answer as insert-answer
+use Rattle.insert.specs.Insert as insert-call
+use Rattle.insert.specs.declared.answer.Inserted.{Inserted}
+use Rattle.insert.specs.declared.answer.Inserted.the-variants as inserted
+use Rattle.delete.specs.Answer as delete-answer
+use Rattle.delete.specs.Delete as delete-call
+use Rattle.delete.specs.declared.answer.Deleted.{Deleted}
+use Rattle.delete.specs.declared.answer.Deleted.the-variants as deleted
+use Rattle.demands.specs.Histories.{Block, next, leaves, nothing, insertChange, deleteChange, changeOf, totals, told, CallBytes}
+use Rattle.demands.specs.Drawn.{drawing}
+use Rattle.demands.specs.Accepts.{Edit, insert, delete, tagOf, callOf, turn, Accepted, effect, done}
+use Rattle.demands.proofs.Changes.{insert-sound, over-held}
+use Rattle.demands.proofs.Cases.{insert-cases, delete-cases}
+use Rattle.demands.proofs.Frames.{frame-limit}
+use Rattle.demands.proofs.KeyBytes.{step-bytes}
+use Rattle.demands.proofs.Totals.{total-of, totals-sorted, totals-lookup}
+use Rattle.demands.proofs.Steps.{held-sorted, step-sound}
+use Rattle.demands.proofs.Histories.{drawing-is}
+use Rattle.demands.proofs.Swaps.{put-new, lookup-new, new-lookup, put-leave, lookup-put, lookup-alter, put-put, put-alter, alter-alter}
+
+-- ── a block has one tree, whoever found it sound ──
+module _ (words keys : List ℕ) where
+  abbrev Cells : Option (Tree Held) → Type 0
+  Cells d = (x : Place) → cellOf (frame words) words keys x ≡ store-of d x
+
+  root-used : (t : Tree Held) → Cells (some t) → Used (cellOf (frame words) words keys (root t))
+  root-used t h = subst Used (sym (h (root t))) (own t [])
+
+  root-pool : (t : Tree Held) → Cells (some t) → inPool (frame words) (root t) ≡ true
+  root-pool t h = used-pool (frame words) words keys (root t) (root-used t h)
+
+  tree-shown : (t : Tree Held) → Cells (some t) → Once t [] → Shows t [] (cellOf (frame words) words keys)
+  tree-shown t h o = subst (Shows t []) (sym (fun-ext h)) (store-shows t [] o)
+
+  same-tree : (d e : Option (Tree Held)) → Sane d → Sane e → OnceOf d → OnceOf e → Cells d → Cells e → Rooted (rootWord words) d → Rooted (rootWord words) e → d ≡ e
+  same-tree none none g g′ o o′ h h′ r r′ = refl
+  same-tree none (some u) g g′ o o′ h h′ r r′ = absurd (subst Used (h (root u)) (root-used u h′))
+  same-tree (some t) none g g′ o o′ h h′ r r′ = absurd (subst Used (h′ (root t)) (root-used t h))
+  same-tree (some t) (some u) g g′ o o′ h h′ r r′ =
+      ap some (shown-once t u g g′ [] (cellOf (frame words) words keys) (tree-shown t h o) (tree-shown u h′ o′)
+      (sym (place-ref (frame words) (root t) (root-pool t h)) ∙ ap placeAt (sym r ∙ r′) ∙ place-ref (frame words) (root u) (root-pool u h′)))
+
+pub one-tree : {words keys : List ℕ} (s t : Sound words keys) → s .tree ≡ t .tree
+one-tree {words} {keys} s t = same-tree words keys (s .tree) (t .tree) (s .good) (t .good) (s .once) (t .once) (s .shown) (t .shown) (s .rooted) (t .rooted)
+
+-- so what it holds decides its drawing
+drawn-same : {words keys words′ keys′ : List ℕ} (s : Sound words keys) (t : Sound words′ keys′) → totals (held (s .tree)) ≡ totals (held (t .tree)) → drawing (s .tree) ≡ drawing (t .tree)
+drawn-same s t e = drawing-is (s .tree) (s .good) ∙ ap draw e ∙ sym (drawing-is (t .tree) (t .good))
+
+-- ── an accepted call ──
+-- an answer that changes nothing is not 0
+refused-insert : (tag : Tag) (total : ℕ) (a : Inserted) → insertChange tag total a ≡ nothing → insert-answer.numberOf a ≢ 0
+refused-insert tag total inserted.New e z = let q : _≡_ {A = ℕ} 0 1 = cc in omega arith
+refused-insert tag total (inserted.Over old) e z = let q : _≡_ {A = ℕ} 0 1 = cc in omega arith
+refused-insert tag total inserted.TooLong e z = omega arith
+refused-insert tag total inserted.Clash e z = omega arith
+refused-insert tag total inserted.NoLeaf e z = omega arith
+refused-insert tag total inserted.NoRecord e z = omega arith
+refused-insert tag total inserted.Damaged e z = omega arith
+refused-insert tag total inserted.ShortScratch e z = omega arith
+
+refused-delete : (tag : Tag) (a : Deleted) → deleteChange tag a ≡ nothing → delete-answer.numberOf a ≢ 0
+refused-delete tag (deleted.Gone old) e z = let q : _≡_ {A = ℕ} 0 1 = cc in omega arith
+refused-delete tag deleted.Missing e z = omega arith
+refused-delete tag deleted.Damaged e z = omega arith
+refused-delete tag deleted.ShortScratch e z = omega arith
+
+module _ {words keys : List ℕ} (s : Sound words keys) where
+  abbrev holds : Listing ℕ
+  holds = totals (held (s .tree))
+
+  insert-does : (scratch tag : List ℕ) (total : ℕ) → Bytes tag → Bytes keys → let o = insert-call.insertOf words keys scratch tag total in
+      insert-answer.numberOf (o .answer) ≡ 0 → insertChange tag total (o .answer) ≡ effect (insert tag total) (lookup tag holds)
+  insert-does scratch tag total bytes key-bytes =
+      insert-cases words keys tag total (λ o. insert-answer.numberOf (o .answer) ≡ 0 → insertChange tag total (o .answer) ≡ effect (insert tag total) (lookup tag holds))
+      (λ a r e z. absurd (refused-insert tag total a e z))
+      (λ r t short site n gap e z.
+      let m = insert-sound s tag bytes key-bytes (subst (λ (m : ℕ). length tag ≤ m) (sym (frame-limit s)) short) e total in
+      let order : Sorted (put tag (record { number = n; total = total }) (held (s .tree))) = subst Sorted (m .1) (held-sorted (m .0 .tree) (m .0 .good)) in
+      let unheld : lookup tag (held (s .tree)) ≡ none = lookup-new tag (held (s .tree)) (put-new tag (record { number = n; total = total }) (held (s .tree)) order) in
+      ap (effect (insert tag total)) (sym (totals-lookup tag (held (s .tree)) ∙ ap total-of unheld)))
+      (λ r t leaf e z. ap (effect (insert tag total)) (sym (totals-lookup tag (held (s .tree)) ∙ ap total-of (over-held s tag bytes e .1)))) scratch
+
+  delete-does : (scratch tag : List ℕ) → let o = delete-call.deleteOf words keys scratch tag in delete-answer.numberOf (o .answer) ≡ 0 → deleteChange tag (o .answer) ≡ leaves tag
+  delete-does scratch tag =
+      delete-cases words keys tag (λ o. delete-answer.numberOf (o .answer) ≡ 0 → deleteChange tag (o .answer) ≡ leaves tag) (λ a r e z. absurd (refused-delete tag a e z)) (λ r t cut n gap e z. refl) scratch
+
+  does : (e : Edit) (scratch : List ℕ) → Bytes (tagOf e) → Bytes keys → Accepted (record { words = words; keys = keys }) e scratch
+      → changeOf (callOf e) (record { words = words; keys = keys; scratch = scratch }) ≡ effect e (lookup (tagOf e) holds)
+  does (insert tag total) scratch h k a = insert-does scratch tag total h k (some-inj a)
+  does (delete tag) scratch h k a = delete-does scratch tag (some-inj a)
+
+edit-bytes : (e : Edit) → Bytes (tagOf e) → CallBytes (callOf e)
+edit-bytes (insert tag total) h = h
+edit-bytes (delete tag) h = h
+
+-- an accepted insert or delete leaves a sound block with what it makes of the listing
+pub edit-sound : (b : Block) (s : Sound (b .words) (b .keys)) → Bytes (b .keys) → (e : Edit) (scratch : List ℕ) → Bytes (tagOf e) → Accepted b e scratch
+    → (t : Sound (next b (turn e scratch) .words) (next b (turn e scratch) .keys)) × (totals (held (t .tree)) ≡ done e (totals (held (s .tree))))
+edit-sound b s k e scratch h a =
+    let z = step-sound b s k (turn e scratch) (edit-bytes e h) in
+    (z .0, z .1 ∙ ap (told (totals (held (s .tree)))) (does s e scratch h k a))
+
+-- ── on listings ──
+told-lookup : (t : Tag) (x : Edit) → t ≢ tagOf x → (o : Option ℕ) (l : Listing ℕ) → lookup t (told l (effect x o)) ≡ lookup t l
+told-lookup t (insert tag total) ne none l = lookup-put t tag ne total l
+told-lookup t (insert tag total) ne (some old) l = lookup-alter t tag ne (λ x. some total) l
+told-lookup t (delete tag) ne o l = lookup-alter t tag ne (λ x. none) l
+
+swap-told : (x y : Edit) → tagOf x ≢ tagOf y → (o p : Option ℕ) (l : Listing ℕ) → Sorted l → told (told l (effect x o)) (effect y p) ≡ told (told l (effect y p)) (effect x o)
+swap-told (insert s a) (insert t b) ne none none l h = put-put t s (λ q. ne (sym q)) b a l
+swap-told (insert s a) (insert t b) ne none (some p) l h = sym (put-alter s t ne a (λ x. some b) l h)
+swap-told (insert s a) (insert t b) ne (some o) none l h = put-alter t s (λ q. ne (sym q)) b (λ x. some a) l h
+swap-told (insert s a) (insert t b) ne (some o) (some p) l h = alter-alter t s (λ q. ne (sym q)) (λ x. some b) (λ x. some a) l
+swap-told (insert s a) (delete t) ne none p l h = sym (put-alter s t ne a (λ x. none) l h)
+swap-told (insert s a) (delete t) ne (some o) p l h = alter-alter t s (λ q. ne (sym q)) (λ x. none) (λ x. some a) l
+swap-told (delete s) (insert t b) ne o none l h = put-alter t s (λ q. ne (sym q)) b (λ x. none) l h
+swap-told (delete s) (insert t b) ne o (some p) l h = alter-alter t s (λ q. ne (sym q)) (λ x. some b) (λ x. none) l
+swap-told (delete s) (delete t) ne o p l h = alter-alter t s (λ q. ne (sym q)) (λ x. none) (λ x. none) l
+
+-- changes to different tags, in either order
+pub done-done : (x y : Edit) → tagOf x ≢ tagOf y → (l : Listing ℕ) → Sorted l → done y (done x l) ≡ done x (done y l)
+done-done x y ne l h =
+    let o = lookup (tagOf x) l in
+    let p = lookup (tagOf y) l in
+    ap (λ (q : Option ℕ). told (done x l) (effect y q)) (told-lookup (tagOf y) x (λ q. ne (sym q)) o l)
+    ∙ swap-told x y ne o p l h
+    ∙ sym (ap (λ (q : Option ℕ). told (done y l) (effect x q)) (told-lookup (tagOf x) y ne p l))
+
+-- ── the two corollaries ──
+-- two changes to different tags draw the same tree in either order, where both orders are accepted
+pub either-order : (b : Block) → Sound (b .words) (b .keys) → Bytes (b .keys) → (x y : Edit) → Bytes (tagOf x) → Bytes (tagOf y) → tagOf x ≢ tagOf y → (p q p′ q′ : List ℕ)
+    → Accepted b x p → Accepted (next b (turn x p)) y q → Accepted b y q′ → Accepted (next b (turn y q′)) x p′
+    → let xy = next (next b (turn x p)) (turn y q) in let yx = next (next b (turn y q′)) (turn x p′) in
+    (s : Sound (xy .words) (xy .keys)) (t : Sound (yx .words) (yx .keys)) → drawing (s .tree) ≡ drawing (t .tree)
+either-order b z k x y h i ne p q p′ q′ a c a′ c′ s t =
+    let first = edit-sound b z k x p h a in
+    let second = edit-sound (next b (turn x p)) (first .0) (step-bytes b k (turn x p) (edit-bytes x h)) y q i c in
+    let first′ = edit-sound b z k y q′ i a′ in
+    let second′ = edit-sound (next b (turn y q′)) (first′ .0) (step-bytes b k (turn y q′) (edit-bytes y i)) x p′ h c′ in
+    let order = totals-sorted (held (z .tree)) (held-sorted (z .tree) (z .good)) in
+    ap drawing (one-tree s (second .0))
+    ∙ drawn-same (second .0) (second′ .0) (second .1 ∙ ap (done y) (first .1) ∙ done-done x y ne (totals (held (z .tree))) order ∙ sym (second′ .1 ∙ ap (done x) (first′ .1)))
+    ∙ ap drawing (one-tree (second′ .0) t)
+
+-- an unheld tag added and removed again restores the drawing
+pub restored : (b : Block) (z : Sound (b .words) (b .keys)) → Bytes (b .keys) → (tag : Tag) (total : ℕ) → Bytes tag → lookup tag (held (z .tree)) ≡ none → (p q : List ℕ)
+    → Accepted b (insert tag total) p → Accepted (next b (turn (insert tag total) p)) (delete tag) q
+    → let after = next (next b (turn (insert tag total) p)) (turn (delete tag) q) in (s : Sound (after .words) (after .keys)) → drawing (s .tree) ≡ drawing (z .tree)
+restored b z k tag total h unheld p q a c s =
+    let l = totals (held (z .tree)) in
+    let free : lookup tag l ≡ none = totals-lookup tag (held (z .tree)) ∙ ap total-of unheld in
+    let first = edit-sound b z k (insert tag total) p h a in
+    let second = edit-sound (next b (turn (insert tag total) p)) (first .0) (step-bytes b k (turn (insert tag total) p) h) (delete tag) q h c in
+    ap drawing (one-tree s (second .0))
+    ∙ drawn-same (second .0) z (second .1 ∙ ap (done (delete tag)) (first .1 ∙ ap (λ (o : Option ℕ). told l (effect (insert tag total) o)) free) ∙ put-leave tag total l (new-lookup tag l free))

@@ -1,0 +1,332 @@
+-- Each call tests its conditions in the table's order, so it gives a row's number exactly where the row's condition holds.
+use Prim.Native.Nat.{ℕ, _≤_}
+use mathlib.Core.Path.{_≡_, refl, sym, ap, subst, _∙_}
+use mathlib.Core.Logic.{_≢_}
+use mathlib.Core.Option.{Option, none, some}
+use mathlib.Core.Bool.{Bool, true, false}
+use native.Mathlib.Omega.{arith}
+use lib.ListN.{length, getD}
+use lib.Dec.{eqb, ltb}
+use borrow.Author.Tests.{eq-eqb, ne-eqb, eqb-true, eqb-false, ltb-true, ltb-false}
+use Rattle.lists.specs.Scan.{choose}
+use Rattle.frames.specs.Form.{formOf}
+use Rattle.frames.specs.Frame.{frameFits}
+use Rattle.frames.specs.Place.{placeAt, inPool, startAt, recordAt}
+use Rattle.frames.specs.declared.frame.Caps.{Caps}
+use Rattle.frames.specs.declared.frame.Frame.{Frame}
+use Rattle.records.specs.View.{Held}
+use Rattle.art.specs.Tags.{Tag, exact, begin}
+use Rattle.art.specs.Listings.{find, lookup}
+use Rattle.art.specs.Orders.{first-of, last-of, after}
+use Rattle.art.specs.Verdicts.{Verdict, known, clash, free, judge}
+use Rattle.art.specs.Stores.{Place, leaf-place, inner-place}
+use Rattle.art.specs.Points.{store-of}
+use Rattle.art.proofs.ReadBack.{some-inj}
+use Rattle.pools.specs.Start as start-call
+use Rattle.pools.specs.Start.{startFits, startOf}
+use Rattle.view.proofs.Starts as starts
+use Rattle.tree.specs.Answer.{foundNumber, factsNumber, leafFound}
+use Rattle.tree.specs.Arrive.{withFrame}
+use Rattle.tree.specs.Leaf.{leafState, nextOf, nextAt, nextFrom, nextLeafOf, factsFrom, factsOf}
+use Rattle.tree.specs.declared.answer.Found.{Found}
+use Rattle.tree.specs.declared.answer.Found.the-variants as found
+use Rattle.tree.specs.declared.answer.Facts.{Facts}
+use Rattle.tree.specs.declared.leaf.LeafState.{LeafState}
+use Rattle.tree.specs.declared.leaf.LeafState.the-variants.{Good, Broken, NoLeaf}
+use Rattle.reading.specs.Answers.{Bytes, answerOf}
+use Rattle.whole.specs.Check as check-call
+use Rattle.whole.specs.Check.{checkOf}
+use Rattle.whole.specs.Sound.{frame, Sound}
+use Rattle.whole.specs.declared.check.Checked.{Checked}
+use Rattle.whole.specs.declared.check.Checked.the-variants as checked
+use Rattle.range.specs.Range as after-call
+use Rattle.range.specs.Range.{afterOf, afterCheck}
+use Rattle.range.specs.declared.After.{After}
+use Rattle.pointed.proofs.Sounds.{sound-shown}
+use Rattle.insert.specs.Answer as insert-answer
+use Rattle.insert.specs.Insert as insert-call
+use Rattle.insert.specs.Plan as insert-plan
+use Rattle.insert.specs.declared.answer.Inserted.{Inserted}
+use Rattle.insert.specs.declared.plan.Plan.{Plan}
+use Rattle.insert.specs.declared.plan.Plan.the-variants as new
+use Rattle.insert.proofs.Afters.{afterIs, after-shown}
+use Rattle.insert.proofs.Ready.{bytes-all}
+use Rattle.insert.specs.Room as room
+use Rattle.insert.proofs.Refusals as refusals
+use Rattle.delete.specs.Answer as delete-answer
+use Rattle.delete.specs.Delete as delete-call
+use Rattle.delete.specs.Plan as delete-plan
+use Rattle.delete.specs.declared.answer.Deleted.{Deleted}
+use Rattle.delete.specs.declared.plan.Plan as delete-plans
+use Rattle.delete.specs.declared.plan.Plan.the-variants as gone
+use Rattle.delete.proofs.Answers as delete-answers
+use Rattle.demands.specs.Calls.{Call, start, search, prefix-search, minimum, maximum, next-leaf, leaf-facts, leaf-tag, check, first-at-or-after, insert, delete, Slices, numberOf, run}
+use Rattle.demands.specs.Histories.{CallBytes}
+use Rattle.demands.specs.Due as due
+use Rattle.demands.specs.Due.{Unframed, Short, Unsound, Passed, holds, InUse, obeys, nextRef, namesLeaf, named, Due, Spoken}
+use Rattle.demands.proofs.Reading.{sound-reads}
+use Rattle.demands.proofs.Tested.{Tests, unframed, short, unsound, passed, tested, check-unframed, check-short, check-unsound, check-passed, insert-too-long, insert-by, insert-passed, delete-by, delete-passed}
+
+-- ── where the frame does not fit ──
+unframed-is : {A : Type 0} (s : Slices) → Unframed s → (given : Frame → A) (refused : A) → withFrame (s .words) (s .keys) given refused ≡ refused
+unfolding withFrame
+unframed-is s e given refused = ap (λ (b : Bool). choose b (given (frame (s .words))) refused) e
+
+framed-is : {A : Type 0} (s : Slices) → frameFits (s .words) (s .keys) ≡ true → (given : Frame → A) (refused : A) → withFrame (s .words) (s .keys) given refused ≡ given (frame (s .words))
+unfolding withFrame
+framed-is s e given refused = ap (λ (b : Bool). choose b (given (frame (s .words))) refused) e
+
+-- ── a leaf number ──
+module _ (s : Slices) (n : ℕ) where
+  abbrev f : Frame
+  f = frame (s .words)
+
+  abbrev state : LeafState
+  state = leafState f (s .words) (s .keys) n
+
+  outside-state : inPool f (leaf-place n) ≡ false → state ≡ NoLeaf
+  unfolding leafState
+  outside-state p = simp p
+
+  free-state : inPool f (leaf-place n) ≡ true → getD (recordAt f (s .words) (leaf-place n)) 0 0 ≡ 0 → state ≡ NoLeaf
+  unfolding leafState
+  free-state p e = simp (p, eq-eqb (getD (recordAt f (s .words) (leaf-place n)) 0 0) 0 e)
+
+  broken-state : InUse s n → obeys s n ≡ false → state ≡ Broken
+  unfolding leafState
+  broken-state u r = simp (u .pool, ne-eqb (getD (recordAt f (s .words) (leaf-place n)) 0 0) 0 (u .used), r)
+
+  good-state : InUse s n → obeys s n ≡ true → state ≡ Good (startAt f (leaf-place n))
+  unfolding leafState
+  good-state u r = simp (u .pool, ne-eqb (getD (recordAt f (s .words) (leaf-place n)) 0 0) 0 (u .used), r)
+
+  next-by : frameFits (s .words) (s .keys) ≡ true → (x : LeafState) → state ≡ x → nextLeafOf (s .words) (s .keys) n ≡ nextFrom f (s .words) n x
+  next-by fits x e = framed-is s fits _ _ ∙ ap (nextFrom f (s .words) n) e
+
+  facts-by : frameFits (s .words) (s .keys) ≡ true → (x : LeafState) → state ≡ x → factsOf (s .words) (s .keys) n ≡ factsFrom (recordAt f (s .words) (leaf-place n)) x
+  facts-by fits x e = framed-is s fits _ _ ∙ ap (factsFrom (recordAt f (s .words) (leaf-place n))) e
+
+  at-number : (x : Place) (b : Bool) → namesLeaf f (s .words) x ≡ b → foundNumber (nextAt f (s .words) x) ≡ choose {A = ℕ} b 0 6
+  at-number (leaf-place m) true e = ap (λ (b : Bool). foundNumber (choose b (leafFound m (recordAt f (s .words) (leaf-place m))) found.Damaged)) e
+  at-number (leaf-place m) false e = ap (λ (b : Bool). foundNumber (choose b (leafFound m (recordAt f (s .words) (leaf-place m))) found.Damaged)) e
+  at-number (inner-place k m) b e = ap (λ (b : Bool). choose {A = ℕ} b 0 6) e
+
+  -- a leaf that obeys its rule: by what its next names
+  next-end : InUse s n → obeys s n ≡ true → nextRef s n ≡ 0 → foundNumber (nextLeafOf (s .words) (s .keys) n) ≡ 1
+  unfolding nextOf
+  next-end u r e =
+      ap foundNumber (next-by (u .fits) _ (good-state u r))
+      ∙ ap (λ (b : Bool). foundNumber (choose b found.Missing (nextAt f (s .words) (placeAt (nextRef s n))))) (eq-eqb (nextRef s n) 0 e)
+
+  next-names : InUse s n → obeys s n ≡ true → nextRef s n ≢ 0 → (b : Bool) → named s (nextRef s n) ≡ b → foundNumber (nextLeafOf (s .words) (s .keys) n) ≡ choose {A = ℕ} b 0 6
+  unfolding nextOf
+  next-names u r ne b e =
+      ap foundNumber (next-by (u .fits) _ (good-state u r))
+      ∙ ap (λ (b : Bool). foundNumber (choose b found.Missing (nextAt f (s .words) (placeAt (nextRef s n))))) (ne-eqb (nextRef s n) 0 ne)
+      ∙ at-number (placeAt (nextRef s n)) b e
+
+-- ── start ──
+start-number : (s : Slices) (c : Caps) (b : Bool) → startFits (formOf 1) c (length (s .words)) (length (s .keys)) ≡ b → start-call.startNumber (startOf (s .words) (s .keys) c .answer) ≡ choose {A = ℕ} b 0 8
+start-number s c true e = ap start-call.startNumber (starts.start-done (s .words) (s .keys) c e)
+start-number s c false e = ap (λ (o : start-call.Out). start-call.startNumber (o .answer)) (starts.start-refused (s .words) (s .keys) c e)
+
+-- ── first at or after ──
+after-by : (s : Slices) (t : Tag) (c : Checked) → checkOf (s .words) (s .keys) (s .scratch) .result ≡ c → afterOf (s .words) (s .keys) (s .scratch) t .result ≡ afterCheck (s .words) (s .keys) t c
+unfolding afterOf
+after-by s t c e = ap (afterCheck (s .words) (s .keys) t) e
+
+-- on a sound block it answers as the sorted list
+pub after-passed : (s : Slices) (t : Tag) (p : Passed s) → afterOf (s .words) (s .keys) (s .scratch) t .result ≡ afterIs (after t (holds (p .sound)))
+after-passed s t p = after-by s t checked.Sound (check-passed s p) ∙ after-shown (sound-shown (p .sound)) t
+
+-- ── insert, by its plan ──
+module _ (s : Slices) (t : Tag) (total : ℕ) (fits : length t ≤ formOf 1 .limit) (p : Passed s) where
+  abbrev plan : Plan
+  plan = insert-plan.planOf (frame (s .words)) (s .words) (s .keys) t
+
+  planned-number : (q : Plan) → plan ≡ q
+      → insert-answer.numberOf (insert-call.insertOf (s .words) (s .keys) (s .scratch) t total .answer) ≡ insert-answer.numberOf (insert-call.planned (frame (s .words)) (s .words) (s .keys) (checkOf (s .words) (s .keys) (s .scratch) .scratch) t total q .answer)
+  planned-number q e =
+      ap insert-answer.numberOf (insert-passed s t total fits p)
+      ∙ ap (λ (q : Plan). insert-answer.numberOf (insert-call.planned (frame (s .words)) (s .words) (s .keys) (checkOf (s .words) (s .keys) (s .scratch) .scratch) t total q .answer)) e
+
+-- ── delete, by its plan ──
+module _ (s : Slices) (t : Tag) (bytes : Bytes t) (p : Passed s) where
+  delete-number : (q : delete-plans.Plan) → delete-plan.planOf (frame (s .words)) (s .words) (s .keys) t ≡ q
+      → delete-answer.numberOf (delete-call.deleteOf (s .words) (s .keys) (s .scratch) t .answer) ≡ delete-answer.numberOf (delete-call.planned (frame (s .words)) (s .words) (s .keys) (checkOf (s .words) (s .keys) (s .scratch) .scratch) q .answer)
+  delete-number q e =
+      ap delete-answer.numberOf (delete-passed s t p)
+      ∙ ap (λ (q : delete-plans.Plan). delete-answer.numberOf (delete-call.planned (frame (s .words)) (s .words) (s .keys) (checkOf (s .words) (s .keys) (s .scratch) .scratch) q .answer)) e
+
+  delete-done : (h : Held) → lookup t (holds (p .sound)) ≡ some h → delete-answer.numberOf (delete-call.deleteOf (s .words) (s .keys) (s .scratch) t .answer) ≡ 0
+  delete-done h e = go (delete-plan.planOf (frame (s .words)) (s .words) (s .keys) t) refl
+    where
+      go : (q : delete-plans.Plan) → delete-plan.planOf (frame (s .words)) (s .words) (s .keys) t ≡ q → delete-answer.numberOf (delete-call.deleteOf (s .words) (s .keys) (s .scratch) t .answer) ≡ 0
+      go (gone.Out cut n gap) i = delete-number (gone.Out cut n gap) i
+      go gone.Missing i = let z : none ≡ some h = sym (delete-answers.missing-held (p .sound) t (bytes-all t bytes) i) ∙ e in let y : _≡_ {A = ℕ} 0 1 = cc in absurd (omega arith)
+      go gone.Broken i = absurd (delete-answers.never-broken (p .sound) t (bytes-all t bytes) i)
+
+-- ── each row's number is given where its condition holds ──
+module _ (s : Slices) (t : Tag) (total : ℕ) (fits : length t ≤ formOf 1 .limit) (p : Passed s) (bytes : Bytes t) where
+  abbrev verdict : Verdict
+  verdict = judge t (holds (p .sound))
+
+  abbrev full : Type 0
+  full = room.LeavesFull (frame (s .words)) (store-of (p .sound .tree))
+
+  abbrev lacking : Type 0
+  lacking = room.Lacking (frame (s .words)) (p .sound .tree) t
+
+  answers : room.Answers verdict full lacking (plan s t total fits p)
+  answers = refusals.plan-answers (p .sound) t bytes
+
+  abbrev number : ℕ
+  number = insert-answer.numberOf (insert-call.insertOf (s .words) (s .keys) (s .scratch) t total .answer)
+
+  over-number : verdict ≡ known → number ≡ 0
+  over-number e = let r = refusals.only-over verdict full lacking (plan s t total fits p) answers e in planned-number s t total fits p (new.Over (r .0)) (r .1)
+
+  clash-number : verdict ≡ clash → number ≡ 3
+  clash-number e = planned-number s t total fits p new.Clash (refusals.only-clash verdict full lacking (plan s t total fits p) answers e)
+
+  full-number : verdict ≡ free → full → number ≡ 4
+  full-number e a = planned-number s t total fits p new.NoLeaf (refusals.only-full verdict full lacking (plan s t total fits p) answers e a)
+
+  lacking-number : verdict ≡ free → ¬ full → lacking → number ≡ 5
+  lacking-number e a b = planned-number s t total fits p new.NoRecord (refusals.only-lacking verdict full lacking (plan s t total fits p) answers e a b)
+
+  new-number : verdict ≡ free → ¬ full → ¬ lacking → number ≡ 0
+  new-number e a b = let r = refusals.only-new verdict full lacking (plan s t total fits p) answers e a b in planned-number s t total fits p (new.New (r .0) (r .1) (r .2)) (r .3)
+
+pub due-number : {c : Call} {s : Slices} {n : ℕ} → CallBytes c → Due c s n → numberOf (run c s .answer) ≡ some n
+due-number b (due.start-refused {c} {s} e) = ap some (start-number s c false e)
+due-number b (due.start-done {c} {s} e) = ap some (start-number s c true e)
+due-number b (due.search-unframed {t} {s} e) = ap (λ (a : Found). some (foundNumber a)) (unframed-is s e _ _)
+due-number b (due.search-missing {t} {s} z e) = ap (λ (a : Found). some (foundNumber a)) (sound-reads z .search t b ∙ ap answerOf e)
+due-number b (due.search-found {t} {s} z h e) = ap (λ (a : Found). some (foundNumber a)) (sound-reads z .search t b ∙ ap answerOf e)
+due-number b (due.prefix-unframed {t} {s} e) = ap (λ (a : Found). some (foundNumber a)) (unframed-is s e _ _)
+due-number b (due.prefix-missing {t} {s} z e) = ap (λ (a : Found). some (foundNumber a)) (sound-reads z .prefix-search t b ∙ ap answerOf e)
+due-number b (due.prefix-found {t} {s} z h e) = ap (λ (a : Found). some (foundNumber a)) (sound-reads z .prefix-search t b ∙ ap answerOf e)
+due-number b (due.minimum-unframed {s} e) = ap (λ (a : Found). some (foundNumber a)) (unframed-is s e _ _)
+due-number b (due.minimum-missing {s} z e) = ap (λ (a : Found). some (foundNumber a)) (sound-reads z .minimum ∙ ap answerOf e)
+due-number b (due.minimum-found {s} z h e) = ap (λ (a : Found). some (foundNumber a)) (sound-reads z .minimum ∙ ap answerOf e)
+due-number b (due.maximum-unframed {s} e) = ap (λ (a : Found). some (foundNumber a)) (unframed-is s e _ _)
+due-number b (due.maximum-missing {s} z e) = ap (λ (a : Found). some (foundNumber a)) (sound-reads z .maximum ∙ ap answerOf e)
+due-number b (due.maximum-found {s} z h e) = ap (λ (a : Found). some (foundNumber a)) (sound-reads z .maximum ∙ ap answerOf e)
+due-number b (due.next-unframed {n} {s} e) = ap (λ (a : Found). some (foundNumber a)) (unframed-is s e _ _)
+due-number b (due.next-outside {n} {s} fits e) = ap (λ (a : Found). some (foundNumber a)) (next-by s n fits NoLeaf (outside-state s n e))
+due-number b (due.next-free {n} {s} fits p e) = ap (λ (a : Found). some (foundNumber a)) (next-by s n fits NoLeaf (free-state s n p e))
+due-number b (due.next-broken {n} {s} u r) = ap (λ (a : Found). some (foundNumber a)) (next-by s n (u .fits) Broken (broken-state s n u r))
+due-number b (due.next-unnamed {n} {s} u r ne e) = ap some (next-names s n u r ne false e)
+due-number b (due.next-end {n} {s} u r e) = ap some (next-end s n u r e)
+due-number b (due.next-done {n} {s} u r ne e) = ap some (next-names s n u r ne true e)
+due-number b (due.facts-unframed {n} {s} e) = ap (λ (a : Facts). some (factsNumber a)) (unframed-is s e _ _)
+due-number b (due.facts-outside {n} {s} fits e) = ap (λ (a : Facts). some (factsNumber a)) (facts-by s n fits NoLeaf (outside-state s n e))
+due-number b (due.facts-free {n} {s} fits p e) = ap (λ (a : Facts). some (factsNumber a)) (facts-by s n fits NoLeaf (free-state s n p e))
+due-number b (due.facts-broken {n} {s} u r) = ap (λ (a : Facts). some (factsNumber a)) (facts-by s n (u .fits) Broken (broken-state s n u r))
+due-number b (due.facts-done {n} {s} u r) = ap (λ (a : Facts). some (factsNumber a)) (facts-by s n (u .fits) _ (good-state s n u r))
+due-number b (due.check-unframed {s} e) = ap (λ (a : Checked). some (check-call.numberOf a)) (check-unframed s e)
+due-number b (due.check-short {s} h) = ap (λ (a : Checked). some (check-call.numberOf a)) (check-short s h)
+due-number b (due.check-unsound {s} h) = ap (λ (a : Checked). some (check-call.numberOf a)) (check-unsound s h)
+due-number b (due.check-sound {s} p) = ap (λ (a : Checked). some (check-call.numberOf a)) (check-passed s p)
+due-number b (due.after-unframed {t} {s} e) = ap (λ (a : After). some (after-call.numberOf a)) (after-by s t checked.Damaged (check-unframed s e))
+due-number b (due.after-short {t} {s} h) = ap (λ (a : After). some (after-call.numberOf a)) (after-by s t checked.ShortScratch (check-short s h))
+due-number b (due.after-unsound {t} {s} h) = ap (λ (a : After). some (after-call.numberOf a)) (after-by s t checked.Damaged (check-unsound s h))
+due-number b (due.after-missing {t} {s} p e) = ap (λ (a : After). some (after-call.numberOf a)) (after-passed s t p ∙ ap afterIs e)
+due-number b (due.after-found {t} {s} p h e) = ap (λ (a : After). some (after-call.numberOf a)) (after-passed s t p ∙ ap afterIs e)
+due-number b (due.insert-long {t} {total} {s} l) = ap (λ (a : Inserted). some (insert-answer.numberOf a)) (insert-too-long s t total l)
+due-number b (due.insert-unframed {t} {total} {s} l e) = ap (λ (a : Inserted). some (insert-answer.numberOf a)) (insert-by s t total l checked.Damaged (check-unframed s e))
+due-number b (due.insert-short {t} {total} {s} l h) = ap (λ (a : Inserted). some (insert-answer.numberOf a)) (insert-by s t total l checked.ShortScratch (check-short s h))
+due-number b (due.insert-unsound {t} {total} {s} l h) = ap (λ (a : Inserted). some (insert-answer.numberOf a)) (insert-by s t total l checked.Damaged (check-unsound s h))
+due-number b (due.insert-over {t} {total} {s} l p e) = ap some (over-number s t total l p b e)
+due-number b (due.insert-clash {t} {total} {s} l p e) = ap some (clash-number s t total l p b e)
+due-number b (due.insert-full {t} {total} {s} l p e a) = ap some (full-number s t total l p b e a)
+due-number b (due.insert-lacking {t} {total} {s} l p e a k) = ap some (lacking-number s t total l p b e a k)
+due-number b (due.insert-new {t} {total} {s} l p e a k) = ap some (new-number s t total l p b e a k)
+due-number b (due.delete-unframed {t} {s} e) = ap (λ (a : Deleted). some (delete-answer.numberOf a)) (delete-by s t checked.Damaged (check-unframed s e))
+due-number b (due.delete-short {t} {s} h) = ap (λ (a : Deleted). some (delete-answer.numberOf a)) (delete-by s t checked.ShortScratch (check-short s h))
+due-number b (due.delete-unsound {t} {s} h) = ap (λ (a : Deleted). some (delete-answer.numberOf a)) (delete-by s t checked.Damaged (check-unsound s h))
+due-number b (due.delete-missing {t} {s} p e) = ap some (delete-number s t b p gone.Missing (delete-answers.held-missing (p .sound) t (bytes-all t b) e))
+due-number b (due.delete-held {t} {s} p h e) = ap some (delete-done s t b p h e)
+
+-- ── and there is a row for every call that the table speaks of ──
+-- a number with its row
+abbrev Row : Call → Slices → Type 0
+Row c s = (n : ℕ) × Due c s n
+
+-- by what is found in the list
+by-found : {c : Call} {s : Slices} (o : Option Held) {o′ : Option Held} → o′ ≡ o → (o′ ≡ none → Due c s 1) → ((h : Held) → o′ ≡ some h → Due c s 0) → Row c s
+by-found none e miss hit = (1, miss e)
+by-found (some h) e miss hit = (0, hit h e)
+
+-- by frame, scratch and soundness
+by-tests : {c : Call} {s : Slices} → (Unframed s → Due c s 6) → (Short s → Due c s 7) → (Unsound s → Due c s 6) → (Passed s → Row c s) → Tests s → Row c s
+by-tests a b d go (unframed e) = (6, a e)
+by-tests a b d go (short h) = (7, b h)
+by-tests a b d go (unsound h) = (6, d h)
+by-tests a b d go (passed p) = go p
+
+start-row : (c : Caps) (s : Slices) (b : Bool) → startFits (formOf 1) c (length (s .words)) (length (s .keys)) ≡ b → Row (start c) s
+start-row c s true e = (0, due.start-done e)
+start-row c s false e = (8, due.start-refused e)
+
+-- a leaf number: the frame, the pool, word 0 and the rule
+by-leaf : {c : Call} (s : Slices) (n : ℕ) → (Unframed s → Due c s 6) → (frameFits (s .words) (s .keys) ≡ true → inPool (frame (s .words)) (leaf-place n) ≡ false → Due c s 9)
+    → (frameFits (s .words) (s .keys) ≡ true → inPool (frame (s .words)) (leaf-place n) ≡ true → getD (recordAt (frame (s .words)) (s .words) (leaf-place n)) 0 0 ≡ 0 → Due c s 9)
+    → (InUse s n → obeys s n ≡ false → Due c s 6) → (InUse s n → obeys s n ≡ true → Row c s) → Row c s
+by-leaf {c} s n no-frame outside unused broken good =
+    go (frameFits (s .words) (s .keys)) refl (inPool (frame (s .words)) (leaf-place n)) refl (eqb (getD (recordAt (frame (s .words)) (s .words) (leaf-place n)) 0 0) 0) refl (obeys s n) refl
+  where
+    word : ℕ
+    word = getD (recordAt (frame (s .words)) (s .words) (leaf-place n)) 0 0
+
+    go : (a : Bool) → frameFits (s .words) (s .keys) ≡ a → (b : Bool) → inPool (frame (s .words)) (leaf-place n) ≡ b → (d : Bool) → eqb word 0 ≡ d → (r : Bool) → obeys s n ≡ r → Row c s
+    go false p b q d i r j = (6, no-frame p)
+    go true p false q d i r j = (9, outside p q)
+    go true p true q true i r j = (9, unused p q (eqb-true word 0 i))
+    go true p true q false i false j = (6, broken (record { fits = p; pool = q; used = eqb-false word 0 i }) j)
+    go true p true q false i true j = good (record { fits = p; pool = q; used = eqb-false word 0 i }) j
+
+next-row : (s : Slices) (n : ℕ) → InUse s n → obeys s n ≡ true → Row (next-leaf n) s
+next-row s n u r = go (eqb (nextRef s n) 0) refl (named s (nextRef s n)) refl
+  where
+    go : (b : Bool) → eqb (nextRef s n) 0 ≡ b → (d : Bool) → named s (nextRef s n) ≡ d → Row (next-leaf n) s
+    go true e d i = (1, due.next-end u r (eqb-true (nextRef s n) 0 e))
+    go false e true i = (0, due.next-done u r (eqb-false (nextRef s n) 0 e) i)
+    go false e false i = (6, due.next-unnamed u r (eqb-false (nextRef s n) 0 e) i)
+
+plan-row : (s : Slices) (t : Tag) (total : ℕ) → length t ≤ formOf 1 .limit → (p : Passed s) (q : Plan)
+    → room.Answers (judge t (holds (p .sound))) (room.LeavesFull (frame (s .words)) (store-of (p .sound .tree))) (room.Lacking (frame (s .words)) (p .sound .tree) t) q → Row (insert t total) s
+plan-row s t total l p (new.Over leaf) h = (0, due.insert-over l p h)
+plan-row s t total l p (new.New site n gap) h = (0, due.insert-new l p (h .0) (h .1) (h .2))
+plan-row s t total l p new.Clash h = (3, due.insert-clash l p h)
+plan-row s t total l p new.NoLeaf h = (4, due.insert-full l p (h .0) (h .1))
+plan-row s t total l p new.NoRecord h = (5, due.insert-lacking l p (h .0) (h .1) (h .2))
+plan-row s t total l p new.Broken h = absurd h
+
+insert-row : (s : Slices) (t : Tag) (total : ℕ) → Bytes t → (b : Bool) → ltb (formOf 1 .limit) (length t) ≡ b → Row (insert t total) s
+insert-row s t total bytes true e = (2, due.insert-long (ltb-true (formOf 1 .limit) (length t) e))
+insert-row s t total bytes false e =
+    let l : length t ≤ formOf 1 .limit = ltb-false (formOf 1 .limit) (length t) e in
+    by-tests (due.insert-unframed l) (due.insert-short l) (due.insert-unsound l)
+    (λ p. plan-row s t total l p (insert-plan.planOf (frame (s .words)) (s .words) (s .keys) t) (refusals.plan-answers (p .sound) t bytes)) (tested s)
+
+due-row : (c : Call) (s : Slices) → Spoken c s → CallBytes c → Row c s
+due-row (start c) s k b = start-row c s (startFits (formOf 1) c (length (s .words)) (length (s .keys))) refl
+due-row (search t) s z b = by-found (find exact t (holds z)) refl (due.search-missing z) (due.search-found z)
+due-row (prefix-search t) s z b = by-found (find begin t (holds z)) refl (due.prefix-missing z) (due.prefix-found z)
+due-row minimum s z b = by-found (first-of (holds z)) refl (due.minimum-missing z) (due.minimum-found z)
+due-row maximum s z b = by-found (last-of (holds z)) refl (due.maximum-missing z) (due.maximum-found z)
+due-row (next-leaf n) s k b = by-leaf s n due.next-unframed due.next-outside due.next-free due.next-broken (next-row s n)
+due-row (leaf-facts n) s k b = by-leaf s n due.facts-unframed due.facts-outside due.facts-free due.facts-broken (λ u r. (0, due.facts-done u r))
+due-row (leaf-tag n) s k b = absurd k
+due-row check s k b = by-tests due.check-unframed due.check-short due.check-unsound (λ p. (0, due.check-sound p)) (tested s)
+due-row (first-at-or-after t) s k b =
+    by-tests due.after-unframed due.after-short due.after-unsound (λ p. by-found (after t (holds (p .sound))) refl (due.after-missing p) (due.after-found p)) (tested s)
+due-row (insert t total) s k b = insert-row s t total b (ltb (formOf 1 .limit) (length t)) refl
+due-row (delete t) s k b =
+    by-tests due.delete-unframed due.delete-short due.delete-unsound (λ p. by-found (lookup t (holds (p .sound))) refl (due.delete-missing p) (due.delete-held p)) (tested s)
+
+-- so a number is given only where a row of the table gives it
+pub number-due : (c : Call) (s : Slices) (n : ℕ) → Spoken c s → CallBytes c → numberOf (run c s .answer) ≡ some n → Due c s n
+number-due c s n k b e = let r = due-row c s k b in subst (Due c s) (some-inj (sym (due-number b (r .1)) ∙ e)) (r .1)

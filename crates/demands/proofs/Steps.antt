@@ -1,0 +1,182 @@
+-- One call on a sound block leaves a sound block, whose tags and totals are those that the accepted call defines.
+use Prim.Native.Nat.{ℕ, _≤_}
+use mathlib.Core.Path.{_≡_, refl, sym, ap, subst, _∙_, fun-ext}
+use mathlib.Core.Logic.{if-pos}
+use mathlib.Core.List.{List, []}
+use mathlib.Core.Option.{Option, none, some}
+use mathlib.Core.Bool.{Bool, true, false}
+use native.Mathlib.Decide.{ℕ-discrete}
+use native.Mathlib.Omega.{arith}
+use lib.ListN.{length}
+use Rattle.frames.specs.Form.{formOf}
+use Rattle.frames.specs.declared.frame.Caps.{Caps}
+use Rattle.frames.specs.declared.frame.Frame.{Frame}
+use Rattle.records.specs.View.{Held}
+use Rattle.art.specs.Tags.{Listing}
+use Rattle.art.specs.Listings.{lookup, Sorted}
+use Rattle.art.specs.Trees.{Tree}
+use Rattle.art.specs.Deletes.{held, Sane}
+use Rattle.art.specs.Points.{store-of}
+use Rattle.art.specs.Chain.{Linked}
+use Rattle.art.proofs.Trees.{sorted}
+use Rattle.art.proofs.Counts.{put-length, alter-length, leave-length}
+use Rattle.pools.specs.Start as start-call
+use Rattle.pools.specs.Start.{startFits, startOf}
+use Rattle.pools.specs.declared.start.Started.{Started}
+use Rattle.pools.specs.declared.start.Started.the-variants as started
+use Rattle.view.specs.Empty.{Empty}
+use Rattle.view.specs.Links.{linksOf}
+use Rattle.view.proofs.Starts.{start-refused, start-done, start-empty}
+use Rattle.reading.specs.Answers.{Bytes}
+use Rattle.whole.specs.Sound.{frame, Sound}
+use Rattle.states.specs.State.{State}
+use Rattle.states.proofs.Sounds.{state-sound}
+use Rattle.insert.specs.Insert as insert-call
+use Rattle.insert.specs.Meets.{newTotal}
+use Rattle.delete.specs.Delete as delete-call
+use Rattle.demands.specs.Calls.{Call, start, search, prefix-search, minimum, maximum, next-leaf, leaf-facts, leaf-tag, check, first-at-or-after, insert, delete, Slices, run}
+use Rattle.demands.specs.Histories.{Block, Turn, lent, next, Change, nothing, startChange, insertChange, deleteChange, changeOf, totals, told, counted, CallBytes}
+use Rattle.demands.proofs.Changes.{insert-sound, over-sound, delete-held, delete-sound}
+use Rattle.demands.proofs.Cases.{insert-cases, delete-cases}
+use Rattle.demands.proofs.Frames.{frame-limit}
+use Rattle.demands.proofs.Totals.{total-of, totals-sorted, totals-put, totals-alter, totals-lookup}
+
+-- what a sound block holds is sorted
+pub held-sorted : (d : Option (Tree Held)) → Sane d → Sorted (held d)
+held-sorted none g = tt
+held-sorted (some t) g = sorted t g
+
+-- ── an empty block ──
+pub empty-sound : {f : Frame} {words keys : List ℕ} → Empty f words keys → (s : Sound words keys) × (s .tree ≡ none)
+unfolding linksOf
+empty-sound {f} {words} {keys} e = state-sound none shown tt tt refl ends refl
+  where
+    shown : State f words keys (store-of none) (linksOf f words) 0 0
+    shown =
+        record {
+          frame = e .frame;
+          cells = fun-ext (e .cells);
+          rules = λ x u. absurd u;
+          free = λ x p q. e .blank x p;
+          links-are = refl;
+          root-is = e .root;
+          count-is = e .count;
+        }
+
+    ends : Linked (linksOf f words) 0 []
+    ends = (if-pos (ℕ-discrete 0 0) refl _ _ ∙ e .first, e .last)
+
+-- an accepted start makes one, whatever was there
+pub start-sound : (words keys : List ℕ) (c : Caps) → startOf words keys c .answer ≡ started.Done → let o = startOf words keys c in (s : Sound (o .words) (o .keys)) × (s .tree ≡ none)
+start-sound words keys c done = go (startFits (formOf 1) c (length words) (length keys)) refl
+  where
+    refused-done : _≡_ {A = Started} started.Refused started.Done → ⊥
+    refused-done z = let k : _≡_ {A = ℕ} 8 0 = ap start-call.startNumber z in omega arith
+
+    go : (b : Bool) → startFits (formOf 1) c (length words) (length keys) ≡ b → let o = startOf words keys c in (s : Sound (o .words) (o .keys)) × (s .tree ≡ none)
+    go true e = empty-sound (start-empty words keys c e)
+    go false e = let z : _≡_ {A = Started} started.Refused started.Done = ap (λ (o : start-call.Out). o .answer) (sym (start-refused words keys c e)) ∙ done in absurd (refused-done z)
+
+-- ── one call ──
+-- a sound block whose tags and totals are l after the change
+abbrev Stepped : Listing ℕ → (words keys : List ℕ) → Change → Type 0
+Stepped l words keys c = (s : Sound words keys) × (totals (held (s .tree)) ≡ told l c)
+
+module _ {words keys : List ℕ} (s : Sound words keys) where
+  abbrev list : Listing ℕ
+  list = totals (held (s .tree))
+
+  -- where the words and key bytes are as they came
+  same : (c : Change) → c ≡ nothing → Stepped list words keys c
+  same c e = (s, ap (told list) (sym e))
+
+  start-step : (c : Caps) → let o = startOf words keys c in Stepped list (o .words) (o .keys) (startChange (o .answer))
+  start-step c = go (startFits (formOf 1) c (length words) (length keys)) refl
+    where
+      AfterStart : start-call.Out → Type 0
+      AfterStart o = Stepped list (o .words) (o .keys) (startChange (o .answer))
+
+      go : (b : Bool) → startFits (formOf 1) c (length words) (length keys) ≡ b → AfterStart (startOf words keys c)
+      go true e = let n = empty-sound (start-empty words keys c e) in (n .0, ap (λ (d : Option (Tree Held)). totals (held d)) (n .1) ∙ ap (λ a. told list (startChange a)) (sym (start-done words keys c e)))
+      go false e = subst AfterStart (sym (start-refused words keys c e)) (same nothing refl)
+
+  insert-step : (scratch tag : List ℕ) (total : ℕ) → CallBytes (insert tag total) → Bytes keys
+      → let o = insert-call.insertOf words keys scratch tag total in Stepped list (o .words) (o .keys) (insertChange tag total (o .answer))
+  insert-step scratch tag total bytes key-bytes =
+      insert-cases words keys tag total (λ o. Stepped list (o .words) (o .keys) (insertChange tag total (o .answer))) (λ a r e. same (insertChange tag total a) e)
+      (λ r t short site n gap e.
+      let z = insert-sound s tag bytes key-bytes (subst (λ (m : ℕ). length tag ≤ m) (sym (frame-limit s)) short) e total in
+      (z .0, ap totals (z .1) ∙ totals-put tag (record { number = n; total = total }) (held (s .tree))))
+      (λ r t leaf e. let z = over-sound s tag bytes e total in (z .0, ap totals (z .1) ∙ totals-alter (λ h. some (newTotal total h)) (λ x. some total) (λ h. refl) tag (held (s .tree)))) scratch
+
+  delete-step : (scratch tag : List ℕ) → CallBytes (delete tag)
+      → let o = delete-call.deleteOf words keys scratch tag in Stepped list (o .words) (o .keys) (deleteChange tag (o .answer))
+  delete-step scratch tag bytes =
+      delete-cases words keys tag (λ o. Stepped list (o .words) (o .keys) (deleteChange tag (o .answer))) (λ a r e. same (deleteChange tag a) e)
+      (λ r t cut n gap e. let z = delete-sound s tag bytes e in (z .0, ap totals (z .1) ∙ totals-alter (λ h. none) (λ x. none) (λ h. refl) tag (held (s .tree)))) scratch
+
+  step-by : (c : Call) (scratch : List ℕ) → CallBytes c → Bytes keys
+      → let b : Slices = record { words = words; keys = keys; scratch = scratch } in Stepped list (run c b .slices .words) (run c b .slices .keys) (changeOf c b)
+  step-by (start c) r h k = start-step c
+  step-by (search t) r h k = (s, refl)
+  step-by (prefix-search t) r h k = (s, refl)
+  step-by minimum r h k = (s, refl)
+  step-by maximum r h k = (s, refl)
+  step-by (next-leaf n) r h k = (s, refl)
+  step-by (leaf-facts n) r h k = (s, refl)
+  step-by (leaf-tag n) r h k = (s, refl)
+  step-by check r h k = (s, refl)
+  step-by (first-at-or-after t) r h k = (s, refl)
+  step-by (insert t total) r h k = insert-step r t total h k
+  step-by (delete t) r h k = delete-step r t h
+
+-- one call on a sound block: sound again, with the tags and totals that the call defines
+pub step-sound : (b : Block) (s : Sound (b .words) (b .keys)) → Bytes (b .keys) → (t : Turn) → CallBytes (t .call)
+    → (s′ : Sound (next b t .words) (next b t .keys)) × (totals (held (s′ .tree)) ≡ told (totals (held (s .tree))) (changeOf (t .call) (lent b t)))
+step-sound b s k t h = step-by s (t .call) (t .scratch) h k
+
+-- ── how many ──
+abbrev Counts : Listing ℕ → Change → Type 0
+Counts l c = length (told l c) ≡ counted (length l) c
+
+start-counts : (l : Listing ℕ) (a : Started) → Counts l (startChange a)
+start-counts l started.Done = refl
+start-counts l started.Refused = refl
+
+counts-nothing : (l : Listing ℕ) (c : Change) → c ≡ nothing → Counts l c
+counts-nothing l c e = ap (λ (x : Change). length (told l x)) e ∙ ap (counted (length l)) (sym e)
+
+module _ {words keys : List ℕ} (s : Sound words keys) where
+  insert-counts : (scratch tag : List ℕ) (total : ℕ) → Counts (totals (held (s .tree))) (insertChange tag total (insert-call.insertOf words keys scratch tag total .answer))
+  insert-counts scratch tag total =
+      let l = totals (held (s .tree)) in
+      insert-cases words keys tag total (λ o. Counts l (insertChange tag total (o .answer))) (λ a r e. counts-nothing l (insertChange tag total a) e)
+      (λ r t short site n gap e. put-length tag total l) (λ r t leaf e. alter-length (λ x. total) tag l) scratch
+
+  delete-counts : (scratch tag : List ℕ) → CallBytes (delete tag) → Counts (totals (held (s .tree))) (deleteChange tag (delete-call.deleteOf words keys scratch tag .answer))
+  delete-counts scratch tag bytes =
+      let l = totals (held (s .tree)) in
+      delete-cases words keys tag (λ o. Counts l (deleteChange tag (o .answer))) (λ a r e. counts-nothing l (deleteChange tag a) e)
+      (λ r t cut n gap e.
+      let h = delete-held s tag bytes e in
+      let found : lookup tag l ≡ some (h .0 .total) = totals-lookup tag (held (s .tree)) ∙ ap total-of (h .1) in
+      omega (arith, leave-length tag (h .0 .total) l (totals-sorted (held (s .tree)) (held-sorted (s .tree) (s .good))) found)) scratch
+
+  counts-by : (c : Call) (scratch : List ℕ) → CallBytes c → Counts (totals (held (s .tree))) (changeOf c (record { words = words; keys = keys; scratch = scratch }))
+  counts-by (start c) r h = start-counts (totals (held (s .tree))) (startOf words keys c .answer)
+  counts-by (search t) r h = refl
+  counts-by (prefix-search t) r h = refl
+  counts-by minimum r h = refl
+  counts-by maximum r h = refl
+  counts-by (next-leaf n) r h = refl
+  counts-by (leaf-facts n) r h = refl
+  counts-by (leaf-tag n) r h = refl
+  counts-by check r h = refl
+  counts-by (first-at-or-after t) r h = refl
+  counts-by (insert t total) r h = insert-counts r t total
+  counts-by (delete t) r h = delete-counts r t h
+
+-- an accepted new insert makes the list one longer, an accepted delete one shorter
+pub step-counts : (b : Block) (s : Sound (b .words) (b .keys)) (t : Turn) → CallBytes (t .call)
+    → length (told (totals (held (s .tree))) (changeOf (t .call) (lent b t))) ≡ counted (length (totals (held (s .tree)))) (changeOf (t .call) (lent b t))
+step-counts b s t h = counts-by s (t .call) (t .scratch) h

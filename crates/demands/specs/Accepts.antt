@@ -1,0 +1,40 @@
+-- Accepted inserts and deletes, and what each makes of the listing.
+use Prim.Native.Nat.{ℕ}
+use mathlib.Core.Path.{_≡_}
+use mathlib.Core.List.{List}
+use mathlib.Core.Option.{Option, none, some}
+use Rattle.art.specs.Tags.{Tag, Listing}
+use Rattle.art.specs.Listings.{lookup}
+use Rattle.demands.specs.Calls as calls
+use Rattle.demands.specs.Calls.{Call, numberOf}
+use Rattle.demands.specs.Histories.{Block, Turn, answered, Change, puts, alters, leaves, told}
+
+-- the two calls that change a tag
+pub data Edit : Type 0 where
+  insert : (tag : Tag) (total : ℕ) → Edit
+  delete : (tag : Tag) → Edit
+
+abbrev pub tagOf : Edit → Tag
+tagOf (insert tag total) = tag
+tagOf (delete tag) = tag
+
+abbrev pub callOf : Edit → Call
+callOf (insert tag total) = calls.insert tag total
+callOf (delete tag) = calls.delete tag
+
+-- with the scratch that is lent
+abbrev pub turn : Edit → List ℕ → Turn
+turn e scratch = record { call = callOf e; scratch = scratch }
+
+-- its number is 0
+abbrev pub Accepted : Block → Edit → List ℕ → Type 0
+Accepted b e scratch = numberOf (answered b (turn e scratch)) ≡ some 0
+
+-- a tag that is not held is put in, a held one gets the new total, a deleted one is left out
+abbrev pub effect : Edit → Option ℕ → Change
+effect (insert tag total) none = puts tag total
+effect (insert tag total) (some old) = alters tag total
+effect (delete tag) o = leaves tag
+
+abbrev pub done : Edit → Listing ℕ → Listing ℕ
+done e l = told l (effect e (lookup (tagOf e) l))

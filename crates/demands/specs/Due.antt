@@ -1,0 +1,147 @@
+-- The numbers given back, a table by call: each row has its condition, and that none earlier applies.
+use Prim.Native.Nat.{ℕ, _≤_, _<_}
+use mathlib.Core.Path.{_≡_}
+use mathlib.Core.Logic.{_≢_}
+use mathlib.Core.List.{List}
+use mathlib.Core.Option.{none, some}
+use mathlib.Core.Bool.{Bool, true, false, _&&_}
+use lib.ListN.{length, getD}
+use lib.Dec.{eqb}
+use Rattle.frames.specs.Form.{formOf}
+use Rattle.frames.specs.Frame.{frameFits}
+use Rattle.frames.specs.Place.{placeAt, inPool, recordAt}
+use Rattle.frames.specs.declared.frame.Caps.{Caps}
+use Rattle.frames.specs.declared.frame.Frame.{Frame}
+use Rattle.records.specs.View.{Held, ruleAt}
+use Rattle.art.specs.Tags.{Tag, Listing, exact, begin}
+use Rattle.art.specs.Listings.{find, lookup}
+use Rattle.art.specs.Orders.{first-of, last-of, after}
+use Rattle.art.specs.Verdicts.{known, clash, free, judge}
+use Rattle.art.specs.Deletes.{held}
+use Rattle.art.specs.Stores.{Place, leaf-place, inner-place}
+use Rattle.art.specs.Points.{store-of}
+use Rattle.pools.specs.Start.{startFits}
+use Rattle.whole.specs.Marks.{placesIn}
+use Rattle.whole.specs.Sound.{frame, Sound}
+use Rattle.insert.specs.Room.{LeavesFull, Lacking}
+use Rattle.demands.specs.Calls.{Call, start, search, prefix-search, minimum, maximum, next-leaf, leaf-facts, leaf-tag, check, first-at-or-after, insert, delete, Slices}
+
+-- ── frame, scratch, whole check ──
+abbrev pub Unframed : Slices → Type 0
+Unframed s = frameFits (s .words) (s .keys) ≡ false
+
+pub record Short (s : Slices) : Type 0 where
+  pub fits : frameFits (s .words) (s .keys) ≡ true
+  pub less : length (s .scratch) < placesIn (frame (s .words))
+
+pub record Unsound (s : Slices) : Type 0 where
+  pub fits : frameFits (s .words) (s .keys) ≡ true
+  pub room : placesIn (frame (s .words)) ≤ length (s .scratch)
+  pub not-sound : ¬ Sound (s .words) (s .keys)
+
+pub record Passed (s : Slices) : Type 0 where
+  pub room : placesIn (frame (s .words)) ≤ length (s .scratch)
+  pub sound : Sound (s .words) (s .keys)
+
+-- what a sound block holds
+abbrev pub holds : {words keys : List ℕ} → Sound words keys → Listing Held
+holds s = held (s .tree)
+
+-- ── a leaf number ──
+-- a leaf of the pool whose word 0 is not 0
+pub record InUse (s : Slices) (n : ℕ) : Type 0 where
+  pub fits : frameFits (s .words) (s .keys) ≡ true
+  pub pool : inPool (frame (s .words)) (leaf-place n) ≡ true
+  pub used : getD (recordAt (frame (s .words)) (s .words) (leaf-place n)) 0 0 ≢ 0
+
+abbrev pub obeys : Slices → ℕ → Bool
+obeys s n = ruleAt (frame (s .words)) (s .words) (s .keys) (leaf-place n)
+
+abbrev pub nextRef : Slices → ℕ → ℕ
+nextRef s n = getD (recordAt (frame (s .words)) (s .words) (leaf-place n)) 3 0
+
+-- a leaf of the pool whose word 0 is 1
+abbrev pub namesLeaf : Frame → List ℕ → Place → Bool
+namesLeaf f words (leaf-place n) = inPool f (leaf-place n) && eqb (getD (recordAt f words (leaf-place n)) 0 0) 1
+namesLeaf f words (inner-place k n) = false
+
+abbrev pub named : Slices → ℕ → Bool
+named s ref = namesLeaf (frame (s .words)) (s .words) (placeAt ref)
+
+-- ── the table ──
+pub data Due : Call → Slices → ℕ → Type 0 where
+  start-refused : {c : Caps} {s : Slices} → startFits (formOf 1) c (length (s .words)) (length (s .keys)) ≡ false → Due (start c) s 8
+  start-done : {c : Caps} {s : Slices} → startFits (formOf 1) c (length (s .words)) (length (s .keys)) ≡ true → Due (start c) s 0
+  -- search, prefix search, minimum, maximum: on a sound block 1 or 0 by the list
+  search-unframed : {t : Tag} {s : Slices} → Unframed s → Due (search t) s 6
+  search-missing : {t : Tag} {s : Slices} (z : Sound (s .words) (s .keys)) → find exact t (holds z) ≡ none → Due (search t) s 1
+  search-found : {t : Tag} {s : Slices} (z : Sound (s .words) (s .keys)) (h : Held) → find exact t (holds z) ≡ some h → Due (search t) s 0
+  prefix-unframed : {t : Tag} {s : Slices} → Unframed s → Due (prefix-search t) s 6
+  prefix-missing : {t : Tag} {s : Slices} (z : Sound (s .words) (s .keys)) → find begin t (holds z) ≡ none → Due (prefix-search t) s 1
+  prefix-found : {t : Tag} {s : Slices} (z : Sound (s .words) (s .keys)) (h : Held) → find begin t (holds z) ≡ some h → Due (prefix-search t) s 0
+  minimum-unframed : {s : Slices} → Unframed s → Due minimum s 6
+  minimum-missing : {s : Slices} (z : Sound (s .words) (s .keys)) → first-of (holds z) ≡ none → Due minimum s 1
+  minimum-found : {s : Slices} (z : Sound (s .words) (s .keys)) (h : Held) → first-of (holds z) ≡ some h → Due minimum s 0
+  maximum-unframed : {s : Slices} → Unframed s → Due maximum s 6
+  maximum-missing : {s : Slices} (z : Sound (s .words) (s .keys)) → last-of (holds z) ≡ none → Due maximum s 1
+  maximum-found : {s : Slices} (z : Sound (s .words) (s .keys)) (h : Held) → last-of (holds z) ≡ some h → Due maximum s 0
+  -- next leaf and leaf facts: frame 6, 9, the leaf's own rule 6
+  next-unframed : {n : ℕ} {s : Slices} → Unframed s → Due (next-leaf n) s 6
+  next-outside : {n : ℕ} {s : Slices} → frameFits (s .words) (s .keys) ≡ true → inPool (frame (s .words)) (leaf-place n) ≡ false → Due (next-leaf n) s 9
+  next-free : {n : ℕ} {s : Slices} → frameFits (s .words) (s .keys) ≡ true → inPool (frame (s .words)) (leaf-place n) ≡ true
+      → getD (recordAt (frame (s .words)) (s .words) (leaf-place n)) 0 0 ≡ 0 → Due (next-leaf n) s 9
+  next-broken : {n : ℕ} {s : Slices} → InUse s n → obeys s n ≡ false → Due (next-leaf n) s 6
+  next-unnamed : {n : ℕ} {s : Slices} → InUse s n → obeys s n ≡ true → nextRef s n ≢ 0 → named s (nextRef s n) ≡ false → Due (next-leaf n) s 6
+  next-end : {n : ℕ} {s : Slices} → InUse s n → obeys s n ≡ true → nextRef s n ≡ 0 → Due (next-leaf n) s 1
+  next-done : {n : ℕ} {s : Slices} → InUse s n → obeys s n ≡ true → nextRef s n ≢ 0 → named s (nextRef s n) ≡ true → Due (next-leaf n) s 0
+  facts-unframed : {n : ℕ} {s : Slices} → Unframed s → Due (leaf-facts n) s 6
+  facts-outside : {n : ℕ} {s : Slices} → frameFits (s .words) (s .keys) ≡ true → inPool (frame (s .words)) (leaf-place n) ≡ false → Due (leaf-facts n) s 9
+  facts-free : {n : ℕ} {s : Slices} → frameFits (s .words) (s .keys) ≡ true → inPool (frame (s .words)) (leaf-place n) ≡ true
+      → getD (recordAt (frame (s .words)) (s .words) (leaf-place n)) 0 0 ≡ 0 → Due (leaf-facts n) s 9
+  facts-broken : {n : ℕ} {s : Slices} → InUse s n → obeys s n ≡ false → Due (leaf-facts n) s 6
+  facts-done : {n : ℕ} {s : Slices} → InUse s n → obeys s n ≡ true → Due (leaf-facts n) s 0
+  -- the check: frame 6, 7, 6
+  check-unframed : {s : Slices} → Unframed s → Due check s 6
+  check-short : {s : Slices} → Short s → Due check s 7
+  check-unsound : {s : Slices} → Unsound s → Due check s 6
+  check-sound : {s : Slices} → Passed s → Due check s 0
+  -- first-at-or-after: the same, then 1
+  after-unframed : {t : Tag} {s : Slices} → Unframed s → Due (first-at-or-after t) s 6
+  after-short : {t : Tag} {s : Slices} → Short s → Due (first-at-or-after t) s 7
+  after-unsound : {t : Tag} {s : Slices} → Unsound s → Due (first-at-or-after t) s 6
+  after-missing : {t : Tag} {s : Slices} (p : Passed s) → after t (holds (p .sound)) ≡ none → Due (first-at-or-after t) s 1
+  after-found : {t : Tag} {s : Slices} (p : Passed s) (h : Held) → after t (holds (p .sound)) ≡ some h → Due (first-at-or-after t) s 0
+  -- insert: 2, the same, then over if held, else 3, 4, 5
+  insert-long : {t : Tag} {total : ℕ} {s : Slices} → formOf 1 .limit < length t → Due (insert t total) s 2
+  insert-unframed : {t : Tag} {total : ℕ} {s : Slices} → length t ≤ formOf 1 .limit → Unframed s → Due (insert t total) s 6
+  insert-short : {t : Tag} {total : ℕ} {s : Slices} → length t ≤ formOf 1 .limit → Short s → Due (insert t total) s 7
+  insert-unsound : {t : Tag} {total : ℕ} {s : Slices} → length t ≤ formOf 1 .limit → Unsound s → Due (insert t total) s 6
+  insert-over : {t : Tag} {total : ℕ} {s : Slices} → length t ≤ formOf 1 .limit → (p : Passed s) → judge t (holds (p .sound)) ≡ known → Due (insert t total) s 0
+  insert-clash : {t : Tag} {total : ℕ} {s : Slices} → length t ≤ formOf 1 .limit → (p : Passed s) → judge t (holds (p .sound)) ≡ clash → Due (insert t total) s 3
+  insert-full : {t : Tag} {total : ℕ} {s : Slices} → length t ≤ formOf 1 .limit → (p : Passed s) → judge t (holds (p .sound)) ≡ free
+      → LeavesFull (frame (s .words)) (store-of (p .sound .tree)) → Due (insert t total) s 4
+  insert-lacking : {t : Tag} {total : ℕ} {s : Slices} → length t ≤ formOf 1 .limit → (p : Passed s) → judge t (holds (p .sound)) ≡ free
+      → ¬ LeavesFull (frame (s .words)) (store-of (p .sound .tree)) → Lacking (frame (s .words)) (p .sound .tree) t → Due (insert t total) s 5
+  insert-new : {t : Tag} {total : ℕ} {s : Slices} → length t ≤ formOf 1 .limit → (p : Passed s) → judge t (holds (p .sound)) ≡ free
+      → ¬ LeavesFull (frame (s .words)) (store-of (p .sound .tree)) → ¬ Lacking (frame (s .words)) (p .sound .tree) t → Due (insert t total) s 0
+  -- delete: as the check, then 1
+  delete-unframed : {t : Tag} {s : Slices} → Unframed s → Due (delete t) s 6
+  delete-short : {t : Tag} {s : Slices} → Short s → Due (delete t) s 7
+  delete-unsound : {t : Tag} {s : Slices} → Unsound s → Due (delete t) s 6
+  delete-missing : {t : Tag} {s : Slices} (p : Passed s) → lookup t (holds (p .sound)) ≡ none → Due (delete t) s 1
+  delete-held : {t : Tag} {s : Slices} (p : Passed s) (h : Held) → lookup t (holds (p .sound)) ≡ some h → Due (delete t) s 0
+
+-- the table speaks of the call here: the four searches on a damaged block answer as the walk meets it, and the call that gives a tag gives no number
+abbrev pub Spoken : Call → Slices → Type 0
+Spoken (start c) s = Unit {0}
+Spoken (search t) s = Sound (s .words) (s .keys)
+Spoken (prefix-search t) s = Sound (s .words) (s .keys)
+Spoken minimum s = Sound (s .words) (s .keys)
+Spoken maximum s = Sound (s .words) (s .keys)
+Spoken (next-leaf n) s = Unit {0}
+Spoken (leaf-facts n) s = Unit {0}
+Spoken (leaf-tag n) s = ⊥
+Spoken check s = Unit {0}
+Spoken (first-at-or-after t) s = Unit {0}
+Spoken (insert t total) s = Unit {0}
+Spoken (delete t) s = Unit {0}

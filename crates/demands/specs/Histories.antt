@@ -1,0 +1,135 @@
+-- Histories of calls, and what the accepted ones define.
+use Prim.Native.Nat.{ℕ, suc, _-_}
+use mathlib.Core.List.{List, [], _∷_}
+use mathlib.Core.Option.{some}
+use Rattle.records.specs.View.{Held}
+use Rattle.art.specs.Tags.{Listing}
+use Rattle.art.specs.Puts.{put, alter, leave}
+use Rattle.pools.specs.Start.{startOf}
+use Rattle.pools.specs.declared.start.Started.{Started}
+use Rattle.pools.specs.declared.start.Started.the-variants as started
+use Rattle.reading.specs.Answers.{Bytes}
+use Rattle.insert.specs.Insert.{insertOf}
+use Rattle.insert.specs.declared.answer.Inserted.{Inserted}
+use Rattle.insert.specs.declared.answer.Inserted.the-variants as inserted
+use Rattle.delete.specs.Delete.{deleteOf}
+use Rattle.delete.specs.declared.answer.Deleted.{Deleted}
+use Rattle.delete.specs.declared.answer.Deleted.the-variants as deleted
+use Rattle.demands.specs.Calls as calls
+use Rattle.demands.specs.Calls.{Call, Slices, Answer, run}
+
+-- the words and key bytes of a directory
+pub record Block : Type 0 where
+  pub words : List ℕ
+  pub keys : List ℕ
+
+-- a call with the scratch that is lent to it
+pub record Turn : Type 0 where
+  pub call : Call
+  pub scratch : List ℕ
+
+abbrev pub lent : Block → Turn → Slices
+lent b t = record { words = b .words; keys = b .keys; scratch = t .scratch }
+
+-- one call on a block: its answer, and the block afterwards
+abbrev pub answered : Block → Turn → Answer
+answered b t = run (t .call) (lent b t) .answer
+
+abbrev pub next : Block → Turn → Block
+next b t = let s = run (t .call) (lent b t) .slices in record { words = s .words; keys = s .keys }
+
+-- any calls, one after the other
+abbrev pub after-all : Block → List Turn → Block
+after-all b [] = b
+after-all b (t ∷ ts) = after-all (next b t) ts
+
+-- ── what the accepted calls define ──
+-- what an accepted call changes
+pub data Change : Type 0 where
+  fresh : Change
+  puts : (tag : List ℕ) (total : ℕ) → Change
+  alters : (tag : List ℕ) (total : ℕ) → Change
+  leaves : (tag : List ℕ) → Change
+  nothing : Change
+
+abbrev pub startChange : Started → Change
+startChange started.Done = fresh
+startChange started.Refused = nothing
+
+abbrev pub insertChange : List ℕ → ℕ → Inserted → Change
+insertChange tag total inserted.New = puts tag total
+insertChange tag total (inserted.Over old) = alters tag total
+insertChange tag total inserted.TooLong = nothing
+insertChange tag total inserted.Clash = nothing
+insertChange tag total inserted.NoLeaf = nothing
+insertChange tag total inserted.NoRecord = nothing
+insertChange tag total inserted.Damaged = nothing
+insertChange tag total inserted.ShortScratch = nothing
+
+abbrev pub deleteChange : List ℕ → Deleted → Change
+deleteChange tag (deleted.Gone total) = leaves tag
+deleteChange tag deleted.Missing = nothing
+deleteChange tag deleted.Damaged = nothing
+deleteChange tag deleted.ShortScratch = nothing
+
+abbrev pub changeOf : Call → Slices → Change
+changeOf (calls.start c) s = startChange (startOf (s .words) (s .keys) c .answer)
+changeOf (calls.search t) s = nothing
+changeOf (calls.prefix-search t) s = nothing
+changeOf calls.minimum s = nothing
+changeOf calls.maximum s = nothing
+changeOf (calls.next-leaf n) s = nothing
+changeOf (calls.leaf-facts n) s = nothing
+changeOf (calls.leaf-tag n) s = nothing
+changeOf calls.check s = nothing
+changeOf (calls.first-at-or-after t) s = nothing
+changeOf (calls.insert t total) s = insertChange t total (insertOf (s .words) (s .keys) (s .scratch) t total .answer)
+changeOf (calls.delete t) s = deleteChange t (deleteOf (s .words) (s .keys) (s .scratch) t .answer)
+
+-- tags with their totals
+abbrev pub totals : Listing Held → Listing ℕ
+totals [] = []
+totals (e ∷ l) = (e .0, e .1 .total) ∷ totals l
+
+-- an accepted start empties the list, an accepted insert puts a tag in or changes its total, an accepted delete leaves it out
+abbrev pub told : Listing ℕ → Change → Listing ℕ
+told l fresh = []
+told l (puts tag total) = put tag total l
+told l (alters tag total) = alter (λ x. some total) tag l
+told l (leaves tag) = leave tag l
+told l nothing = l
+
+abbrev pub told-all : Block → Listing ℕ → List Turn → Listing ℕ
+told-all b l [] = l
+told-all b l (t ∷ ts) = told-all (next b t) (told l (changeOf (t .call) (lent b t))) ts
+
+-- accepted new inserts less accepted deletes since start
+abbrev pub counted : ℕ → Change → ℕ
+counted n fresh = 0
+counted n (puts tag total) = suc n
+counted n (alters tag total) = n
+counted n (leaves tag) = n - 1
+counted n nothing = n
+
+abbrev pub counted-all : Block → ℕ → List Turn → ℕ
+counted-all b n [] = n
+counted-all b n (t ∷ ts) = counted-all (next b t) (counted n (changeOf (t .call) (lent b t))) ts
+
+-- the tags that are given are bytes
+abbrev pub CallBytes : Call → Type 0
+CallBytes (calls.start c) = Unit {0}
+CallBytes (calls.search t) = Bytes t
+CallBytes (calls.prefix-search t) = Bytes t
+CallBytes calls.minimum = Unit {0}
+CallBytes calls.maximum = Unit {0}
+CallBytes (calls.next-leaf n) = Unit {0}
+CallBytes (calls.leaf-facts n) = Unit {0}
+CallBytes (calls.leaf-tag n) = Unit {0}
+CallBytes calls.check = Unit {0}
+CallBytes (calls.first-at-or-after t) = Bytes t
+CallBytes (calls.insert t total) = Bytes t
+CallBytes (calls.delete t) = Bytes t
+
+abbrev pub AllBytes : List Turn → Type 0
+AllBytes [] = Unit {0}
+AllBytes (t ∷ ts) = CallBytes (t .call) × AllBytes ts

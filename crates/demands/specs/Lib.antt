@@ -1,0 +1,7 @@
+pub mod Calls
+pub mod Histories
+pub mod Scratch
+pub mod Drawn
+pub mod Story
+pub mod Accepts
+pub mod Due

@@ -1,0 +1,36 @@
+-- The calls that take scratch, and what is past their test for 7.
+use Prim.Native.Nat.{ℕ}
+use mathlib.Core.List.{List}
+use mathlib.Core.Bool.{Bool, false, _&&_}
+use lib.ListN.{length}
+use lib.Dec.{leb}
+use Rattle.lists.specs.Scan.{choose}
+use Rattle.frames.specs.Form.{formOf}
+use Rattle.frames.specs.Frame.{frameFits}
+use Rattle.whole.specs.Marks.{placesIn}
+use Rattle.whole.specs.Check.{cleared}
+use Rattle.whole.specs.Sound.{frame}
+use Rattle.demands.specs.Calls.{Call, start, search, prefix-search, minimum, maximum, next-leaf, leaf-facts, leaf-tag, check, first-at-or-after, insert, delete, Slices}
+
+-- the frame fits, and there is a byte for each record
+abbrev pub enough : Slices → Bool
+enough s = frameFits (s .words) (s .keys) && leb (placesIn (frame (s .words))) (length (s .scratch))
+
+-- insert tests its tag's length before
+abbrev pub past : Call → Slices → Bool
+past (start c) s = false
+past (search t) s = false
+past (prefix-search t) s = false
+past minimum s = false
+past maximum s = false
+past (next-leaf n) s = false
+past (leaf-facts n) s = false
+past (leaf-tag n) s = false
+past check s = enough s
+past (first-at-or-after t) s = enough s
+past (insert t total) s = leb (length t) (formOf 1 .limit) && enough s
+past (delete t) s = enough s
+
+-- as many zeros in front as there are records, the rest untouched; before the test all untouched
+abbrev pub leftIn : Call → Slices → List ℕ
+leftIn c s = choose (past c s) (cleared (placesIn (frame (s .words))) (s .scratch)) (s .scratch)
