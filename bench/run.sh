@@ -19,7 +19,7 @@ missing() {
 build_crate() {
     command -v cargo > /dev/null || missing "no cargo, to build the crate with"
     (cd blart && sha256sum --check --quiet supplied.sha256) || missing "a supplied file of the crate was changed"
-    cargo build --quiet --offline --manifest-path blart/Cargo.toml --target-dir "$out/cargo"
+    CARGO_HOME=$out/cargo-home cargo build --quiet --offline --manifest-path blart/Cargo.toml --target-dir "$out/cargo"
     crate=$out/cargo/debug/driver
 }
 
@@ -39,7 +39,8 @@ build_port() {
         compiler="x86_64-linux-gnu-gcc -O2 -static" emulator=${QEMU:-qemu-x86_64}
         command -v "$emulator" > /dev/null || missing "this is no x86-64 machine, and there is no $emulator to run the port in (QEMU=path names one)"
     fi
-    command -v "${compiler%% *}" > /dev/null || missing "no ${compiler%% *}, to compile port.c with"
+    echo 'int main(void) { return 0; }' > "$out/empty.c"
+    $compiler "$out/empty.c" -o "$out/empty" 2> /dev/null || missing "no ${compiler%% *} that compiles a C program, for port.c"
     $compiler -std=c11 -Wall -Wextra -I../include port.c "$library" -o "$out/port"
 }
 
