@@ -9,15 +9,18 @@
  *   word I VALUE, key I VALUE                      one word or key byte overwritten
  *   scratch LENGTH                                 another scratch slice
  *   save, back                                     words and key bytes kept, and brought back
+ * FORM is the form of the layout, of which there is one, 1. Answers end in a 0 where other implementations may say more of a tag.
+ *
  * Every slice stands between guard bytes; a call that touches one ends the run with status 3. A line that is none of these ends it with status 2. */
 #include <inttypes.h>
 #include <stdint.h>
 #include <stdio.h>
 #include <stdlib.h>
 #include <string.h>
+
 #include "directory.h"
 
-enum { GUARD = 64, MOST = 1 << 22 };
+enum { GUARD = 64, GUARD_BYTE = 0x5c, MOST_BYTES = 1 << 22, MOST_LINE = 1 << 18, MOST_TAG = MOST_LINE / 2, MOST_FIELDS = 10 };
 
 typedef struct {
     uint8_t *room;
@@ -26,25 +29,42 @@ typedef struct {
 
 static slice words, keys, scratch, kept_words, kept_keys;
 
+/* The line's fields, and what the second and the third are as numbers and the second as a tag; a call uses those that it has. */
+static char *field[MOST_FIELDS];
+static uint64_t first, second;
+static uint8_t tag[MOST_TAG];
+static size_t tag_length;
+
+#define BLOCK (uint32_t *)at(words), words.size / 4, at(keys), keys.size
+#define SCRATCH at(scratch), scratch.size
+#define TAG tag, tag_length
+
+static void refuse_line(void) {
+    fprintf(stderr, "no such call, or not with these fields: %s\n", field[0]);
+    exit(2);
+}
+
 static uint8_t *at(slice s) { return s.room + GUARD; }
 
-static slice lend(size_t size, const void *unit, size_t width) {
-    slice s = {malloc(size + 2 * GUARD), size};
-    if (s.room == NULL) exit(2);
-    memset(s.room, 0x5c, size + 2 * GUARD);
-    for (size_t i = 0; i + width <= size; i += width) memcpy(at(s) + i, unit, width);
-    return s;
+/* A slice of this many bytes, all with the unit in them over and over. */
+static void lend(slice *s, size_t size, const void *unit, size_t width) {
+    if (size > MOST_BYTES) refuse_line();
+    free(s->room);
+    *s = (slice){malloc(size + 2 * GUARD), size};
+    if (s->room == NULL) exit(2);
+    memset(s->room, GUARD_BYTE, size + 2 * GUARD);
+    for (size_t i = 0; i + width <= size; i += width) memcpy(at(*s) + i, unit, width);
 }
 
-static void guarded(slice s) {
-    if (s.room == NULL) return;
-    for (size_t i = 0; i < GUARD; i++)
-        if (s.room[i] != 0x5c || s.room[GUARD + s.size + i] != 0x5c) {
-            fprintf(stderr, "a byte outside the lent slices was changed\n");
-            exit(3);
-        }
+static void look_at_guards(slice s) {
+    for (size_t i = 0; i < GUARD; i++) {
+        if (s.room[i] == GUARD_BYTE && s.room[GUARD + s.size + i] == GUARD_BYTE) continue;
+        fputs("a byte outside the lent slices was changed\n", stderr);
+        exit(3);
+    }
 }
 
+/* The usual CRC-32, which other languages have ready. */
 static uint32_t sum(slice s) {
     uint32_t c = 0xffffffffu;
     for (size_t i = 0; i < s.size; i++) {
@@ -55,91 +75,101 @@ static uint32_t sum(slice s) {
 }
 
 static void copy(slice *to, slice from) {
-    free(to->room);
-    *to = lend(from.size, "", 1);
+    lend(to, from.size, "", 1);
     memcpy(at(*to), at(from), from.size);
 }
 
-static size_t unhex(const char *text, uint8_t *tag) {
-    size_t n = 0;
-    if (text[0] == '-') return 0;
-    for (; text[2 * n] && text[2 * n + 1]; n++) {
-        unsigned byte;
-        if (sscanf(text + 2 * n, "%2x", &byte) != 1) exit(2);
-        tag[n] = (uint8_t)byte;
+static void read_tag(const char *text) {
+    unsigned byte;
+    for (tag_length = 0; text[0] != '-' && text[2 * tag_length] != 0; tag_length++) {
+        if (sscanf(text + 2 * tag_length, "%2x", &byte) != 1) refuse_line();
+        tag[tag_length] = (uint8_t)byte;
     }
-    return n;
 }
 
-static void say_tag(const uint8_t *tag, size_t n) {
-    printf(n ? " " : " -");
-    for (size_t i = 0; i < n; i++) printf("%02x", tag[i]);
-}
+static void say_found(directory_found f) { printf(" %" PRIu32 " %" PRIu32 " %" PRIu64 " 0", f.number, f.leaf, f.total); }
+static void say_changed(directory_changed c) { printf(" %" PRIu32 " %" PRIu64 " 0", c.number, c.total); }
 
-#define BLOCK (uint32_t *)at(words), words.size / 4, at(keys), keys.size
-#define SCRATCH at(scratch), scratch.size
-
-static void found(directory_found f) { printf(" %" PRIu32 " %" PRIu32 " %" PRIu64 " 0", f.number, f.leaf, f.total); }
-static void changed(directory_changed c) { printf(" %" PRIu32 " %" PRIu64 " 0", c.number, c.total); }
-
-static void start(char **a) {
-    size_t v[9];
-    for (int i = 0; i < 9; i++) v[i] = strtoul(a[i], NULL, 10);
-    if (v[6] > MOST || v[7] > MOST || v[8] > MOST) exit(2);
-    uint32_t rubbish = 0xdeadbeef;
-    free(words.room), free(keys.room), free(scratch.room);
-    words = lend(4 * v[6], &rubbish, 4), keys = lend(v[7], "\xaa", 1), scratch = lend(v[8], "\x55", 1);
+static void start(void) {
+    const uint32_t rubbish = 0xdeadbeef;
+    uint64_t v[MOST_FIELDS - 1];
+    for (int i = 0; i < MOST_FIELDS - 1; i++) v[i] = strtoull(field[i + 1], NULL, 10);
+    if (v[0] != 1) refuse_line();
+    lend(&words, 4 * v[6], &rubbish, 4), lend(&keys, v[7], "\xaa", 1), lend(&scratch, v[8], "\x55", 1);
     printf(" %" PRIu32, directory_start(BLOCK, v[1], v[2], v[3], v[4], v[5]));
 }
 
-static void leaf_tag(uint32_t n) {
-    directory_part p = directory_leaf_tag(BLOCK, n);
-    printf(" %" PRIu32, directory_leaf_facts(BLOCK, n).number);
-    say_tag(at(keys) + p.start, p.length);
-}
+static void insert(void) { say_changed(directory_insert(BLOCK, SCRATCH, TAG, second)); }
+static void delete(void) { say_changed(directory_delete(BLOCK, SCRATCH, TAG)); }
+static void search(void) { say_found(directory_search(BLOCK, TAG)); }
+static void prefix_search(void) { say_found(directory_prefix_search(BLOCK, TAG)); }
+static void at_or_after(void) { say_found(directory_first_at_or_after(BLOCK, SCRATCH, TAG)); }
+static void minimum(void) { say_found(directory_minimum(BLOCK)); }
+static void maximum(void) { say_found(directory_maximum(BLOCK)); }
+static void next_leaf(void) { say_found(directory_next_leaf(BLOCK, first)); }
+static void check(void) { printf(" %" PRIu32, directory_check(BLOCK, SCRATCH)); }
 
-static void leaf_facts(uint32_t n) {
-    directory_leaf l = directory_leaf_facts(BLOCK, n);
+static void leaf_facts(void) {
+    directory_leaf l = directory_leaf_facts(BLOCK, first);
     printf(" %" PRIu32 " %" PRIu32 " %" PRIu64, l.number, l.length, l.total);
 }
 
-static void run(char **a, int n) {
-    static uint8_t tag[1 << 16];
-    const char *op = a[0];
-    size_t len = 0;
-    if (n > 1 && strchr("idspa", op[0]) && strcmp(op, "info") && strcmp(op, "save")) len = unhex(a[1], tag);
-    uint32_t i = n > 1 ? strtoul(a[1], NULL, 10) : 0;
-    printf("%s", op);
-    if (!strcmp(op, "start") && n == 10) start(a + 1);
-    else if (!strcmp(op, "insert") && n == 3) changed(directory_insert(BLOCK, SCRATCH, tag, len, strtoull(a[2], NULL, 10)));
-    else if (!strcmp(op, "delete") && n == 2) changed(directory_delete(BLOCK, SCRATCH, tag, len));
-    else if (!strcmp(op, "search") && n == 2) found(directory_search(BLOCK, tag, len));
-    else if (!strcmp(op, "prefix") && n == 2) found(directory_prefix_search(BLOCK, tag, len));
-    else if (!strcmp(op, "after") && n == 2) found(directory_first_at_or_after(BLOCK, SCRATCH, tag, len));
-    else if (!strcmp(op, "min")) found(directory_minimum(BLOCK));
-    else if (!strcmp(op, "max")) found(directory_maximum(BLOCK));
-    else if (!strcmp(op, "next") && n == 2) found(directory_next_leaf(BLOCK, i));
-    else if (!strcmp(op, "info") && n == 2) leaf_facts(i);
-    else if (!strcmp(op, "tag") && n == 2) leaf_tag(i);
-    else if (!strcmp(op, "check")) printf(" %" PRIu32, directory_check(BLOCK, SCRATCH));
-    else if (!strcmp(op, "word") && n == 3 && i < words.size / 4) ((uint32_t *)at(words))[i] = strtoul(a[2], NULL, 10);
-    else if (!strcmp(op, "key") && n == 3 && i < keys.size) at(keys)[i] = strtoul(a[2], NULL, 10);
-    else if (!strcmp(op, "scratch") && n == 2 && i <= MOST) free(scratch.room), scratch = lend(i, "\x55", 1);
-    else if (!strcmp(op, "save")) copy(&kept_words, words), copy(&kept_keys, keys);
-    else if (!strcmp(op, "back")) copy(&words, kept_words), copy(&keys, kept_keys);
-    else exit(2);
+static void leaf_tag(void) {
+    directory_part p = directory_leaf_tag(BLOCK, first);
+    printf(p.length > 0 ? " %" PRIu32 " " : " %" PRIu32 " -", directory_leaf_facts(BLOCK, first).number);
+    for (size_t i = 0; i < p.length; i++) printf("%02x", at(keys)[p.start + i]);
+}
+
+static void write_word(void) {
+    if (first >= words.size / 4) refuse_line();
+    ((uint32_t *)at(words))[first] = (uint32_t)second;
+}
+
+static void write_key(void) {
+    if (first >= keys.size) refuse_line();
+    at(keys)[first] = (uint8_t)second;
+}
+
+static void lend_scratch(void) { lend(&scratch, first, "\x55", 1); }
+static void save(void) { copy(&kept_words, words), copy(&kept_keys, keys); }
+static void back(void) { copy(&words, kept_words), copy(&keys, kept_keys); }
+
+typedef enum { NO_TAG, WITH_TAG } has_tag;
+
+static const struct {
+    const char *name;
+    int fields;
+    has_tag tagged;
+    void (*run)(void);
+} calls[] = {
+    {"start", MOST_FIELDS, NO_TAG, start}, {"insert", 3, WITH_TAG, insert}, {"delete", 2, WITH_TAG, delete}, {"search", 2, WITH_TAG, search},
+    {"prefix", 2, WITH_TAG, prefix_search}, {"after", 2, WITH_TAG, at_or_after}, {"min", 1, NO_TAG, minimum}, {"max", 1, NO_TAG, maximum},
+    {"next", 2, NO_TAG, next_leaf}, {"info", 2, NO_TAG, leaf_facts}, {"tag", 2, NO_TAG, leaf_tag}, {"check", 1, NO_TAG, check},
+    {"word", 3, NO_TAG, write_word}, {"key", 3, NO_TAG, write_key}, {"scratch", 2, NO_TAG, lend_scratch}, {"save", 1, NO_TAG, save},
+    {"back", 1, NO_TAG, back},
+};
+
+static void run(int fields) {
+    size_t i = 0, n = sizeof calls / sizeof calls[0];
+    while (i < n && (strcmp(field[0], calls[i].name) != 0 || fields != calls[i].fields)) i++;
+    if (i == n) refuse_line();
+    first = fields > 1 ? strtoull(field[1], NULL, 10) : 0;
+    second = fields > 2 ? strtoull(field[2], NULL, 10) : 0;
+    if (calls[i].tagged == WITH_TAG) read_tag(field[1]);
+    fputs(field[0], stdout);
+    calls[i].run();
+    look_at_guards(words), look_at_guards(keys), look_at_guards(scratch);
+    printf(" %08" PRIx32 " %08" PRIx32 " %08" PRIx32 "\n", sum(words), sum(keys), sum(scratch));
 }
 
 int main(void) {
-    static char line[1 << 18];
-    while (fgets(line, sizeof line, stdin)) {
-        char *a[16];
-        int n = 0;
-        for (char *t = strtok(line, " \n"); t && n < 16; t = strtok(NULL, " \n")) a[n++] = t;
-        if (n == 0) continue;
-        run(a, n);
-        guarded(words), guarded(keys), guarded(scratch);
-        printf(" %08" PRIx32 " %08" PRIx32 " %08" PRIx32 "\n", sum(words), sum(keys), sum(scratch));
+    static char line[MOST_LINE];
+    /* slices before the first start, so that there is something to lend */
+    lend(&words, 0, "", 1), lend(&keys, 0, "", 1), lend(&scratch, 0, "", 1), save();
+    while (fgets(line, sizeof line, stdin) != NULL) {
+        int fields = 0;
+        for (char *word = strtok(line, " \n"); word != NULL && fields < MOST_FIELDS; word = strtok(NULL, " \n")) field[fields++] = word;
+        if (fields > 0) run(fields);
     }
     return 0;
 }
