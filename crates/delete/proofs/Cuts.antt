@@ -3,6 +3,7 @@ use Prim.Native.Nat.{ℕ, suc, _+_, _/_, _%_, _≤_}
 use mathlib.Core.Path.{_≡_, refl, sym, ap, ap₂, subst, _∙_}
 use mathlib.Core.Logic.{_≢_}
 use mathlib.Core.List.{List, [], _∷_, _++_}
+use mathlib.Core.Option.{Option, none, some}
 use mathlib.Core.Bool.{true}
 use native.Mathlib.Omega.{arith}
 use lib.ListN.{length, take, length-append, length-take}
@@ -28,15 +29,20 @@ use Rattle.points.specs.There.{InnerHere, HasChild, UpThere}
 use Rattle.writes.specs.At.{removeAt, Drops}
 use Rattle.writes.specs.Above.{linkUp}
 use Rattle.pointed.specs.Told.{upTold}
+use Rattle.pointed.proofs.Ups.{UpOff, UpSame, off-same, same-then, up-used, up-off, up-off-kid, up-edits, relink-is, up-root, up-rooted, inner-here, up-there, up-linked}
 use Rattle.states.specs.State.{State}
 use Rattle.delete.specs.declared.plan.Cut.{Cut}
 use Rattle.delete.specs.declared.plan.Cut.the-variants.{Root, Stay, Shrink, Merge}
 use Rattle.delete.specs.Apply.{joinedAt, merged, shrunk, pruned, JoinReady, CutReady}
 use Rattle.states.proofs.Steps.{state-pool, state-here, state-count-word, state-prefix-is, state-prefix-fits, state-child, state-byte, state-leaf, state-remove, state-prefix, state-drop, state-clear, state-root}
-use Rattle.delete.proofs.Aparts.{Under, Left, cut-left, upper-apart, kid-apart, kid-upper-apart, runLength, run-short}
+use Rattle.delete.proofs.Unders.{Under, Left, cut-left, runLength, run-short}
 use Rattle.delete.proofs.Merges.{merge-full, merge-held, merge-fits}
 use Rattle.delete.proofs.Lefts.{cut-length, settle-many, settle-home}
-use Rattle.delete.proofs.Links.{place-up, rootRef, relinked, UpSame, relink-moved, fits-same, up-there, up-linked}
+
+-- the reference to a root, 0 for none
+abbrev pub rootRef : Option Place → ℕ
+rootRef none = 0
+rootRef (some x) = refOf x
 
 -- a cut may be made, and the words after it show the store after the mathematics' writes for the record above, with its root
 pub record Pruned (f : Frame) (words keys : List ℕ) (σ : Store Held) (links : Links) (count : ℕ) (cut : Cut) (hm : Home) (upper up : art.Up) (o : Place) : Type 0 where
@@ -64,9 +70,10 @@ joined-comm : (σ : Store Held) (x : Place) (len : ℕ) (st : List ℕ) (c : ℕ
 joined-comm σ x len st c (leaf-place m) d ne = refl
 joined-comm σ x len st c (inner-place j m) d ne = write-comm σ x (inner-place j m) unused _ ne
 
-joined-other : (σ : Store Held) (len : ℕ) (st : List ℕ) (c : ℕ) (y : Place) (d : Cell Held) (q : Place) → q ≢ y → apply σ (art.merge-into len st c y d) q ≡ σ q
-joined-other σ len st c (leaf-place m) d q ne = refl
-joined-other σ len st c (inner-place j m) d q ne = write-other σ (inner-place j m) _ q ne
+joined-same : (σ : Store Held) (len : ℕ) (st : List ℕ) (c : ℕ) (d : Cell Held) (up : art.Up) (y : Place) → UpOff up y → UpSame σ (apply σ (art.merge-into len st c y d)) up
+joined-same σ len st c d art.top y h = tt
+joined-same σ len st c d (art.via i n b) (leaf-place m) h = refl
+joined-same σ len st c d (art.via i n b) (inner-place j m) h = write-other σ (inner-place j m) _ (inner-place i n) h
 
 -- an inner record of a tree, and its run
 inner-kid : (t : Tree Held) (j m : ℕ) → root t ≡ inner-place j m → (p : Tag) (σ : Store Held) → Shows t p σ
@@ -90,8 +97,10 @@ as-state : {f : Frame} {words keys : List ℕ} {σ τ : Store Held} {links : Lin
 as-state {f} {words} {keys} {σ} {τ} {links} {r} {r′} {count} s e i =
     subst (λ (ρ : Store Held). State f words keys ρ links r′ count) (sym e) (subst (λ (q : ℕ). State f words keys σ links q count) i s)
 
--- ── the record above ──
+-- ── the record above, in a store where no record is its own child or its child's child ──
 module _ {f : Frame} {words keys : List ℕ} {σ : Store Held} {links : Links} {rootWord count : ℕ} (s : State f words keys σ links rootWord count)
+    (near : (k n c : ℕ) (v : Place) → art.ChildAt σ k n c v → inner-place k n ≢ v)
+    (far : (k n c i m d : ℕ) (v : Place) → art.ChildAt σ k n c (inner-place i m) → art.ChildAt σ i m d v → inner-place k n ≢ v)
     (o : Place) (er : rootWord ≡ refOf o) (upper : Up) (ref b : ℕ) (y : Place) (w : Under σ o (upTold upper) (ref % 8) (ref / 8) b y) where
   abbrev x : Place
   x = inner-place (ref % 8) (ref / 8)
@@ -118,7 +127,7 @@ module _ {f : Frame} {words keys : List ℕ} {σ : Store Held} {links : Links} {
   pool = state-pool s x here-used
 
   place : placeAt ref ≡ x
-  place = place-up f ref pool
+  place = inner-here s ref here-used
 
   has-child : HasChild f words x b
   has-child = state-child s (ref % 8) (ref / 8) len st rs b y (w .shown) (w .child-is)
@@ -154,14 +163,6 @@ module _ {f : Frame} {words keys : List ℕ} {σ : Store Held} {links : Links} {
             (as-state (state-remove s (ref % 8) (ref / 8) len st rs b y (w .shown) (w .child-is) three) edits root′);
       }
 
-  -- the record above that is the same, where it is not among the places written
-  upper-same : (τ : Store Held) → ((j m c : ℕ) → above-up ≡ art.via j m c → τ (inner-place j m) ≡ σ (inner-place j m)) → (v : art.Up) → above-up ≡ v → UpSame σ τ v
-  upper-same τ h art.top e = tt
-  upper-same τ h (art.via j m c) e = h j m c e
-
-  upper-used : (j m c : ℕ) → above-up ≡ art.via j m c → Used (σ (inner-place j m))
-  upper-used j m c e = let v = subst (λ (u : art.Up). art.UpFits σ u x) e (w .above) in subst Used (sym (v .parent .shown)) tt
-
   -- ── it moves into a smaller one ──
   module _ (j m : ℕ) (new-pool : inPool f (inner-place j m) ≡ true) (free : σ (inner-place j m) ≡ unused) (three : 3 ≤ length rs) (room : length rs ≤ childrenOf j + 1) where
     abbrev z : Place
@@ -182,12 +183,8 @@ module _ {f : Frame} {words keys : List ℕ} {σ : Store Held} {links : Links} {
 
     moved-same : UpSame σ moved above-up
     moved-same =
-        upper-same moved
-        (λ i q c e. write-other (write σ z cut-cell) x unused (inner-place i q) (upper-apart w i q c e)
-        ∙ write-other σ z cut-cell (inner-place i q) (λ t. apart-unused σ (inner-place i q) z (upper-used i q c e) free (sym t))) above-up refl
-
-    moved-fits : art.UpFits moved above-up x
-    moved-fits = fits-same σ moved above-up x moved-same (w .above)
+        same-then σ (write σ z cut-cell) moved above-up (off-same σ above-up z cut-cell (up-used σ above-up x z (w .above) free))
+        (off-same (write σ z cut-cell) above-up x unused (up-off σ near above-up x (w .above)))
 
     pub shrink-done : Pruned f words keys σ links count (Shrink upper ref (refOf z) b) (shrinkHome j m) above-up via-up o
     unfolding pruned
@@ -195,20 +192,20 @@ module _ {f : Frame} {words keys : List ℕ} {σ : Store Held} {links : Links} {
         let hm = shrinkHome j m in
         let left : 2 ≤ length (cut-ref b rs) = omega (arith, cut-length b rs y (w .child-is)) in
         let at : art.settle-place hm (ref % 8) (ref / 8) (cut-ref b rs) ≡ z = settle-home hm (ref % 8) (ref / 8) (cut-ref b rs) left in
-        let relink : art.relink-up σ above-up x z ≡ relinked moved above-up z = relink-moved σ moved above-up x z (λ e. z-apart (sym e)) moved-same in
-        let edits : apply σ (art.delete-under σ hm above-up via-up) ≡ apply moved (relinked moved above-up z) =
+        let relink : art.relink-up σ above-up x z ≡ up-edits σ above-up z = relink-is σ above-up x z (λ e. z-apart (sym e)) in
+        let edits : apply σ (art.delete-under σ hm above-up via-up) ≡ apply moved (up-edits σ above-up z) =
         ap (apply σ) (under-is hm ∙ ap₂ (λ (es fs : Edits Held). es ++ fs) (settle-many σ hm (ref % 8) (ref / 8) len st (cut-ref b rs) left) (ap (art.relink-up σ above-up x) at ∙ relink))
-        ∙ ap (λ (τ : Store Held). apply τ (relinked moved above-up z)) (write-comm σ x z unused cut-cell z-apart) in
-        let root′ : refOf (art.new-root above-up o z) ≡ rootRef (art.under-root σ hm above-up via-up o) = ap (λ (p : Place). refOf (art.new-root above-up o p)) (sym at) ∙ sym (root-is hm) in
+        ∙ ap (λ (τ : Store Held). apply τ (up-edits σ above-up z)) (write-comm σ x z unused cut-cell z-apart) in
+        let root′ : up-root above-up rootWord (refOf z) ≡ rootRef (art.under-root σ hm above-up via-up o) = up-rooted above-up rootWord o z er ∙ ap (λ (p : Place). refOf (art.new-root above-up o p)) (sym at) ∙ sym (root-is hm) in
         let kind = inner-kind (s .frame) j m new-pool in
         let few = state-count-word s (ref % 8) (ref / 8) len st rs (w .shown) in
         let drops : Drops f words x z b = record { from = has-child; to = record { pool = new-pool; low = kind .0; high = kind .1 }; room = omega (arith, few) } in
         let new-place : placeAt (refOf z) ≡ z = place-ref f z new-pool in
-        let linked = as-state (up-linked moved-state upper x z moved-fits new-pool o er) edits root′ in
+        let linked = as-state (up-linked moved-state σ upper x z moved-same (w .above) new-pool) edits root′ in
         record {
           ready = record {
             drops = at-places (λ (p q : Place). Drops f words p q b) place new-place drops;
-            above = at-places (λ (p q : Place). UpThere f (shrunk f p q b words) upper) place new-place (up-there moved-state upper x moved-fits);
+            above = at-places (λ (p q : Place). UpThere f (shrunk f p q b words) upper) place new-place (up-there moved-state σ upper x moved-same (w .above));
           };
           state = at-places (λ (p q : Place). After hm (linkUp f upper (refOf z) (shrunk f p q b words))) place new-place linked;
         }
@@ -260,38 +257,37 @@ module _ {f : Frame} {words keys : List ℕ} {σ : Store Held} {links : Links} {
     unfolding merged
     freed-state = state-clear (joined c q left .0) (ref % 8) (ref / 8) pool
 
+    child-at : art.ChildAt σ (ref % 8) (ref / 8) c q
+    child-at = record { len = len; rs = rs; parent = record { stored = st; shown = w .shown }; child = one .found }
+
     freed-same : UpSame σ freed above-up
     freed-same =
-        upper-same freed
-        (λ i h e u. write-other with-child x unused (inner-place i h) (upper-apart w i h e u)
-        ∙ joined-other σ len st c q (σ q) (inner-place i h) (kid-upper-apart w q (one .used) i h e u)) above-up refl
-
-    freed-fits : art.UpFits freed above-up x
-    freed-fits = fits-same σ freed above-up x freed-same (w .above)
+        same-then σ with-child freed above-up (joined-same σ len st c (σ q) above-up q (up-off-kid σ far above-up (ref % 8) (ref / 8) c q (w .above) child-at))
+        (off-same with-child above-up x unused (up-off σ near above-up x (w .above)))
 
     pub merge-done : Pruned f words keys σ links count (Merge upper ref r c) stayHome above-up via-up o
     unfolding pruned
     merge-done =
         let hm = stayHome in
-        let apart : q ≢ x = kid-apart w q (one .used) in
+        let apart : q ≢ x = λ e. near (ref % 8) (ref / 8) c q child-at (sym e) in
         let pool′ : inPool f q ≡ true = state-pool s q (subst (λ (p : Place). Used (σ p)) (one .root-is) (shows-used (one .tree) (w .path ++ w .run ++ c ∷ []) σ (one .shows))) in
-        let relink : art.relink-up σ above-up x q ≡ relinked freed above-up q = relink-moved σ freed above-up x q (λ e. apart (sym e)) freed-same in
-        let edits : apply σ (art.delete-under σ hm above-up via-up) ≡ apply freed (relinked freed above-up q) =
+        let relink : art.relink-up σ above-up x q ≡ up-edits σ above-up q = relink-is σ above-up x q (λ e. apart (sym e)) in
+        let edits : apply σ (art.delete-under σ hm above-up via-up) ≡ apply freed (up-edits σ above-up q) =
         ap (apply σ)
         (under-is hm
         ∙ ap (λ (l : Refs). art.settle-refs σ hm (ref % 8) (ref / 8) len st l ++ art.relink-up σ above-up x (art.settle-place hm (ref % 8) (ref / 8) l)) left
         ∙ ap (λ (es : Edits Held). (x, unused) ∷ art.merge-into len st c q (σ q) ++ es) relink)
-        ∙ apply-append (write σ x unused) (art.merge-into len st c q (σ q)) (relinked freed above-up q)
-        ∙ ap (λ (τ : Store Held). apply τ (relinked freed above-up q)) (joined-comm σ x len st c q (σ q) apart) in
-        let root′ : refOf (art.new-root above-up o q) ≡ rootRef (art.under-root σ hm above-up via-up o) =
-        ap (λ (l : Refs). refOf (art.new-root above-up o (art.settle-place hm (ref % 8) (ref / 8) l))) (sym left) ∙ sym (root-is hm) in
-        let linked = as-state (up-linked freed-state upper x q freed-fits pool′ o er) edits root′ in
+        ∙ apply-append (write σ x unused) (art.merge-into len st c q (σ q)) (up-edits σ above-up q)
+        ∙ ap (λ (τ : Store Held). apply τ (up-edits σ above-up q)) (joined-comm σ x len st c q (σ q) apart) in
+        let root′ : up-root above-up rootWord (refOf q) ≡ rootRef (art.under-root σ hm above-up via-up o) =
+        up-rooted above-up rootWord o q er ∙ ap (λ (l : Refs). refOf (art.new-root above-up o (art.settle-place hm (ref % 8) (ref / 8) l))) (sym left) ∙ sym (root-is hm) in
+        let linked = as-state (up-linked freed-state σ upper x q freed-same (w .above) pool′) edits root′ in
         record {
           ready = record {
             here = subst (InnerHere f words) (sym place) (has-child .here);
             child-ready = joined c q left .1;
             low = state-byte s (ref % 8) (ref / 8) len st rs c q (w .shown) (one .found);
-            above = subst (λ (p : Place). UpThere f (merged f p q c words) upper) (sym place) (up-there freed-state upper x freed-fits);
+            above = subst (λ (p : Place). UpThere f (merged f p q c words) upper) (sym place) (up-there freed-state σ upper x freed-same (w .above));
           };
           state =
               subst (λ (p : Place). After hm (linkUp f upper r (merged f p q c words))) (sym place)

@@ -10,9 +10,8 @@ use Rattle.lists.specs.Scan.{choose, all, atMost}
 use Rattle.frames.specs.Frame.{rootWord}
 use Rattle.records.specs.View.{Held}
 use Rattle.art.specs.Trees.{Tree}
-use Rattle.art.specs.Deletes.{held, Sane}
+use Rattle.art.specs.Deletes.{held}
 use Rattle.art.specs.Points.{store-of}
-use Rattle.art.specs.Calls.{OnceOf}
 use Rattle.view.specs.Links.{linksOf}
 use Rattle.reading.specs.Shown as shown
 use Rattle.whole.specs.Sound.{frame, Rooted, Sound}
@@ -33,13 +32,13 @@ SoundFits words keys tag none plan.Broken = ⊥
 SoundFits words keys tag (some t) p = PlanFits (frame words) words keys tag t (linksOf (frame words) words) (length (held (some t))) p
 
 module _ {words keys : List ℕ} (tag : List ℕ) (bytes : all (atMost 255) tag ≡ true) where
-  fits-of : (d : Option (Tree Held)) → Sane d → OnceOf d → Rooted (rootWord words) d → State (frame words) words keys (store-of d) (linksOf (frame words) words) (rootWord words) (length (held d))
+  fits-of : (d : Option (Tree Held)) → Rooted (rootWord words) d → State (frame words) words keys (store-of d) (linksOf (frame words) words) (rootWord words) (length (held d))
       → shown.Shown (frame words) words keys d → SoundFits words keys tag d (planOf (frame words) words keys tag)
   unfolding planOf
-  fits-of none good once rooted s h =
+  fits-of none rooted s h =
       let here = pointPlan (frame words) words (pointOf (frame words) words keys tag (rootWord words)) in
       subst (λ (b : Bool). SoundFits words keys tag none (choose b plan.Missing here)) (sym (eq-eqb (rootWord words) 0 rooted)) tt
-  fits-of (some t) good once rooted s h = plan-fits t good once s rooted tag h bytes
+  fits-of (some t) rooted s h = plan-fits t (h .good) (h .once) s rooted tag h bytes
 
   pub sound-fits : (s : Sound words keys) → SoundFits words keys tag (s .tree) (planOf (frame words) words keys tag)
-  sound-fits s = fits-of (s .tree) (s .good) (s .once) (s .rooted) (sound-state s) (sound-shown s)
+  sound-fits s = fits-of (s .tree) (s .rooted) (sound-state s) (sound-shown s)

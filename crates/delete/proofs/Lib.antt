@@ -1,7 +1,6 @@
-pub mod Aparts
+pub mod Unders
 pub mod Merges
 pub mod Lefts
-pub mod Links
 pub mod Cuts
 pub mod Neighbours
 pub mod Plans

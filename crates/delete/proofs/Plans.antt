@@ -1,7 +1,7 @@
 -- On a block that shows a tree the plan is made of what is there: the leaf that holds the tag, and a cut that may be made; it says Missing exactly where the tag is not held, and never Broken.
 use Prim.Native.Nat.{ℕ, suc, _+_, _-_, _*_, _/_, _%_, _≤_, _<_}
 use mathlib.Core.Path.{_≡_, refl, sym, ap, subst, _∙_}
-use mathlib.Core.Logic.{inl, inr}
+use mathlib.Core.Logic.{inl, inr, _≢_}
 use mathlib.Core.List.{List, []}
 use mathlib.Core.Option.{none, some}
 use mathlib.Core.Bool.{Bool, true, false}
@@ -53,9 +53,10 @@ use Rattle.delete.specs.declared.plan.Plan.{Plan}
 use Rattle.delete.specs.declared.plan.Plan.the-variants as plan
 use Rattle.delete.specs.Plan.{otherEntry, mergeCut, shrinkCut, cutUnder, cutOf, gapOf, pointPlan, planOf}
 use Rattle.pointed.proofs.Points.{tag-bytes, point-shown}
-use Rattle.delete.proofs.Aparts.{Under, UpUnder, PointUnder, point-under}
+use Rattle.pointed.proofs.Aparts.{up-apart, upper-apart}
+use Rattle.pointed.proofs.Ups.{inner-here}
+use Rattle.delete.proofs.Unders.{Under, UpUnder, PointUnder, point-under}
 use Rattle.delete.proofs.Lefts.{other-left}
-use Rattle.delete.proofs.Links.{place-up}
 use Rattle.delete.proofs.Cuts.{Pruned, stayHome, shrinkHome, root-done, stay-done, shrink-done, merge-done}
 
 -- a cut may be made, with homes that are free
@@ -66,6 +67,8 @@ pub record CutFits (f : Frame) (words keys : List ℕ) (σ : Store Held) (links 
 
 -- ── the cut ──
 module _ {f : Frame} {words keys : List ℕ} {σ : Store Held} {links : Links} {rootRef count : ℕ} (s : State f words keys σ links rootRef count)
+    (near : (k n c : ℕ) (v : Place) → art.ChildAt σ k n c v → inner-place k n ≢ v)
+    (far : (k n c i m d : ℕ) (v : Place) → art.ChildAt σ k n c (inner-place i m) → art.ChildAt σ i m d v → inner-place k n ≢ v)
     (o : Place) (er : rootRef ≡ refOf o) (upper : Up) (ref b : ℕ) (y : Place) (w : Under σ o (upTold upper) (ref % 8) (ref / 8) b y) where
   abbrev x : Place
   x = inner-place (ref % 8) (ref / 8)
@@ -76,18 +79,21 @@ module _ {f : Frame} {words keys : List ℕ} {σ : Store Held} {links : Links} {
   abbrev Fits : Cut → Type 0
   Fits cut = CutFits f words keys σ links count cut (upTold upper) (art.via (ref % 8) (ref / 8) b) o
 
+  here-used : Used (σ x)
+  here-used = subst Used (sym (w .shown)) tt
+
   pool : inPool f x ≡ true
-  pool = state-pool s x (subst Used (sym (w .shown)) tt)
+  pool = state-pool s x here-used
 
   stay-fits : 3 ≤ length rs → Fits (Stay ref b)
-  stay-fits three = record { home = stayHome; roomy = λ k n l. inl refl; done = stay-done s o er upper ref b y w three }
+  stay-fits three = record { home = stayHome; roomy = λ k n l. inl refl; done = stay-done s near far o er upper ref b y w three }
 
   -- two children, of which one is left
   merge-row : (row : List (ℕ × ℕ)) → length row ≡ 2 → places row ≡ rs → Fits (mergeCut upper ref b (otherEntry b row))
   merge-row row two e =
       let other = other-left b row y two (ap (λ (l : Refs). find-ref l b) e ∙ w .child-is) in
       subst (λ (i : Entry). Fits (mergeCut upper ref b i)) (sym (other .is))
-      (record { home = stayHome; roomy = λ k n l. inl refl; done = merge-done s o er upper ref b y w (other .byte) (other .ref) (ap (cut-ref b) (sym e) ∙ other .left) })
+      (record { home = stayHome; roomy = λ k n l. inl refl; done = merge-done s near far o er upper ref b y w (other .byte) (other .ref) (ap (cut-ref b) (sym e) ∙ other .left) })
 
   merge-fits : length rs ≡ 2 → Fits (mergeCut upper ref b (otherEntry b (rowAt (f .form) (ref % 8) (recordAt f words x))))
   merge-fits two =
@@ -120,14 +126,14 @@ module _ {f : Frame} {words keys : List ℕ} {σ : Store Held} {links : Links} {
           record {
             home = shrinkHome j m;
             roomy = λ k n l. inr free;
-            done = shrink-done s o er upper ref b y w j m new-pool free three (room (leb 2 (ref % 8)) refl (kind-rules (ref % 8) (kind .0) (kind .1) .mark));
+            done = shrink-done s near far o er upper ref b y w j m new-pool free three (room (leb 2 (ref % 8)) refl (kind-rules (ref % 8) (kind .0) (kind .1) .mark));
           }
 
   pub under-fits : Fits (cutUnder f words upper ref b)
   unfolding cutUnder
   under-fits =
       let row : List (ℕ × ℕ) = rowAt (f .form) (ref % 8) (recordAt f words x) in
-      subst (λ (p : Place). Fits (cut-by (getD (recordAt f words p) 1 0) (rowAt (f .form) (ref % 8) (recordAt f words p)))) (sym (place-up f ref pool))
+      subst (λ (p : Place). Fits (cut-by (getD (recordAt f words p) 1 0) (rowAt (f .form) (ref % 8) (recordAt f words p)))) (sym (inner-here s ref here-used))
       (subst (λ (c : ℕ). Fits (cut-by c row)) (sym size) (go (leb (length rs) 2) refl (leb (length rs) (markOf (ref % 8) + 1)) refl))
     where
       -- by the count of children and the row
@@ -183,7 +189,7 @@ module _ {f : Frame} {words keys : List ℕ} {links : Links} {rootRef size : ℕ
 
   cut-of : (upper up : Up) (y : Place) → UpUnder σ (root t) (upTold upper) (upTold up) y → CutFits f words keys σ links size (cutOf f words upper up) (upTold upper) (upTold up) (root t)
   cut-of upper Top y w = record { home = stayHome; roomy = λ k n l. inl refl; done = root-done s stayHome (upTold upper) (root t) }
-  cut-of upper (Via ref b) y w = under-fits s (root t) er upper ref b y w
+  cut-of upper (Via ref b) y w = under-fits s (up-apart t once) (upper-apart t once) (root t) er upper ref b y w
 
   point-plan : (p : Point) → told p ≡ pt → PlanFits f words keys tag t links size (pointPlan f words p)
   unfolding pointPlan

@@ -12,21 +12,20 @@ use Rattle.frames.specs.Place.{inPool}
 use Rattle.frames.specs.declared.frame.Frame.{Frame}
 use Rattle.records.specs.View.{Held}
 use Rattle.art.specs.Trees.{Tree}
-use Rattle.art.specs.Deletes.{held, Sane}
+use Rattle.art.specs.Deletes.{held}
 use Rattle.art.specs.Stores.{leaf-place, Used}
-use Rattle.art.specs.Chain.{Linked, leaves-of}
 use Rattle.art.specs.Points.{store-of}
-use Rattle.art.specs.Calls.{OnceOf}
 use Rattle.art.proofs.Counts.{cut-count}
 use Rattle.pools.specs.Link.{LeafOrEnd}
 use Rattle.view.specs.Links.{linksOf}
 use Rattle.view.proofs.Links.{used-leaf}
 use Rattle.view.proofs.Chains.{link-in-pool}
+use Rattle.reading.specs.Shown.{Shown}
 use Rattle.whole.specs.Sound.{frame, Sound}
+use Rattle.pointed.proofs.Sounds.{sound-shown}
 use Rattle.writes.specs.declared.leaf_node.Gap.{Gap}
 use Rattle.states.specs.State.{State}
-use Rattle.states.proofs.Steps.{state-pool, state-leaf}
-use Rattle.states.proofs.Standing.{used-end}
+use Rattle.states.proofs.Steps.{state-pool}
 use Rattle.states.proofs.Sounds.{sound-state}
 use Rattle.delete.specs.declared.plan.Cut.{Cut}
 use Rattle.delete.specs.declared.plan.Plan.the-variants.{Out}
@@ -45,24 +44,24 @@ module _ (words keys tag : List ℕ) (cut : Cut) (n : ℕ) (gap : Gap) where
   abbrev f : Frame
   f = frame words
 
-  ready-of : (d : Option (Tree Held)) → Sane d → OnceOf d → Linked (linksOf f words) 0 (leaves-of d) → State f words keys (store-of d) (linksOf f words) (rootWord words) (length (held d))
+  ready-of : (d : Option (Tree Held)) → Shown f words keys d → State f words keys (store-of d) (linksOf f words) (rootWord words) (length (held d))
       → SoundFits words keys tag d (Out cut n gap) → OutReady f words cut n gap
-  ready-of none good once linked s h = absurd h
-  ready-of (some t) good once linked s o =
+  ready-of none shown s h = absurd h
+  ready-of (some t) shown s o =
       let pool : inPool f (leaf-place n) ≡ true = state-pool s (leaf-place n) (subst Used (sym (o .leaf-is)) tt) in
-      let ends = ends-used t good once (λ m u a e. state-leaf s m u a e .2) (linksOf f words) linked tag (o .held) (o .found) in
+      let ends = ends-used shown tag (o .held) (o .found) in
       let gaps = gap-links f words n pool in
       let previous : gap .previous ≡ linksOf f words .prev (o .held .number) = ap (λ (g : Gap). g .previous) (o .gap-is) ∙ gaps .0 ∙ ap (linksOf f words .prev) (sym (o .number-is)) in
       let next : gap .next ≡ linksOf f words .next (o .held .number) = ap (λ (g : Gap). g .next) (o .gap-is) ∙ gaps .1 ∙ ap (linksOf f words .next) (sym (o .number-is)) in
       record {
         cut-ready = o .cut-fits .done .ready;
         pool = pool;
-        before = subst (LeafOrEnd f) (sym previous) (used-leaf f words keys _ (used-end s _ (ends .0)));
-        after = subst (LeafOrEnd f) (sym next) (used-leaf f words keys _ (used-end s _ (ends .1)));
-        counted = omega (arith, s .count-is, cut-count t good stayHome tag (o .held) (o .found));
+        before = subst (LeafOrEnd f) (sym previous) (used-leaf f words keys _ (ends .0));
+        after = subst (LeafOrEnd f) (sym next) (used-leaf f words keys _ (ends .1));
+        counted = omega (arith, s .count-is, cut-count t (shown .good) stayHome tag (o .held) (o .found));
       }
 
 pub delete-ready : {words keys : List ℕ} → Sound words keys → (tag : List ℕ) → all (atMost 255) tag ≡ true → (cut : Cut) (n : ℕ) (gap : Gap) → planOf (frame words) words keys tag ≡ Out cut n gap
     → OutReady (frame words) words cut n gap
 delete-ready {words} {keys} s tag bytes cut n gap e =
-    ready-of words keys tag cut n gap (s .tree) (s .good) (s .once) (s .linked) (sound-state s) (subst (SoundFits words keys tag (s .tree)) e (sound-fits tag bytes s))
+    ready-of words keys tag cut n gap (s .tree) (sound-shown s) (sound-state s) (subst (SoundFits words keys tag (s .tree)) e (sound-fits tag bytes s))

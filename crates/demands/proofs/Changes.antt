@@ -31,7 +31,6 @@ use Rattle.delete.specs.declared.plan.Cut.{Cut}
 use Rattle.delete.specs.declared.plan.Plan.the-variants as gone
 use Rattle.delete.proofs.Sounds as delete-sounds
 use Rattle.delete.proofs.Answers as delete-answers
-use Rattle.demands.proofs.SameFrame.{new-fits, over-fits, gone-fits}
 
 module _ {words keys : List ℕ} (s : Sound words keys) (tag : List ℕ) (bytes : Bytes tag) where
   -- ── a new tag ──
@@ -41,7 +40,7 @@ module _ {words keys : List ℕ} (s : Sound words keys) (tag : List ℕ) (bytes 
     insert-sound = insert-sounds.insert-sound s tag bytes key-bytes short site n gap total plan
 
     pub insert-frame : frame (newWords (frame words) keys tag total site n gap words) ≡ frame words
-    insert-frame = sym (new-fits s tag bytes key-bytes short site n gap plan total .read)
+    insert-frame = sym (insert-sounds.insert-fits s tag bytes key-bytes short site n gap total plan .read)
 
   -- ── a held tag ──
   module _ {leaf : ℕ} (plan : insert-plan.planOf (frame words) words keys tag ≡ new.Over leaf) where
@@ -53,7 +52,7 @@ module _ {words keys : List ℕ} (s : Sound words keys) (tag : List ℕ) (bytes 
     over-sound = overs.over-sound s tag bytes leaf plan
 
     pub over-frame : (total : ℕ) → frame (totalAt (frame words) (leaf / 8) total words) ≡ frame words
-    over-frame total = sym (over-fits s tag bytes leaf plan total .read)
+    over-frame total = sym (overs.over-fits s tag bytes leaf plan total .read)
 
   -- ── a tag that leaves ──
   module _ {cut : Cut} {n : ℕ} {gap : Gap} (plan : delete-plan.planOf (frame words) words keys tag ≡ gone.Out cut n gap) where
@@ -64,7 +63,7 @@ module _ {words keys : List ℕ} (s : Sound words keys) (tag : List ℕ) (bytes 
     delete-sound = delete-sounds.delete-sound s tag (bytes-all tag bytes) cut n gap plan
 
     pub delete-frame : frame (goneWords (frame words) cut n gap words) ≡ frame words
-    delete-frame = sym (gone-fits s tag (bytes-all tag bytes) cut n gap plan .read)
+    delete-frame = sym (delete-sounds.delete-fits s tag (bytes-all tag bytes) cut n gap plan .read)
 
   -- ── the plans of a sound block ──
   pub insert-never-broken : insert-plan.planOf (frame words) words keys tag ≢ new.Broken

@@ -1,7 +1,6 @@
 pub mod Reading
 pub mod Outcomes
 pub mod Refusals
-pub mod SameFrame
 pub mod Changes
 pub mod Cases
 pub mod Frames

@@ -16,7 +16,7 @@ use Rattle.frames.specs.Place.{placeAt, inPool, startAt, recordAt, keyAt}
 use Rattle.frames.specs.declared.frame.Frame.{Frame}
 use Rattle.frames.proofs.Places.{place-leaf, key-length}
 use Rattle.records.specs.Own.{totalOf}
-use Rattle.records.specs.View.{Held, cellOf}
+use Rattle.records.specs.View.{Held}
 use Rattle.art.specs.Tags.{Tag, Listing, Less}
 use Rattle.art.specs.Trees.{Tree}
 use Rattle.art.specs.Deletes.{held}
@@ -24,16 +24,16 @@ use Rattle.art.specs.Puts.{less-dec}
 use Rattle.art.specs.Orders.{after}
 use Rattle.art.specs.Members.{In, Different}
 use Rattle.art.specs.Chain.{Linked, leaf-ref, head-of, numbers, leaves-of}
-use Rattle.art.specs.Stores.{leaf-place, Used}
+use Rattle.art.specs.Stores.{leaf-place}
 use Rattle.art.proofs.Members.{in-right}
 use Rattle.art.proofs.Chains.{linked-after, linked-here}
-use Rattle.art.proofs.Leaves.{leaf-spot, leaves-different}
-use Rattle.art.proofs.Passes.{store-on}
+use Rattle.art.proofs.Leaves.{leaves-different}
 use Rattle.view.specs.Links.{linksOf}
 use Rattle.view.proofs.Chains.{link-in-pool}
 use Rattle.view.proofs.Views.{used-place}
 use Rattle.reading.specs.Shown.{Shown}
 use Rattle.reading.proofs.Entries.{numbers-held, entry-seen, entry-obeys}
+use Rattle.pointed.proofs.Neighbours.{leaf-used}
 use Rattle.range.specs.Range.{below, leafStep, stepOf, afterFrom, afterFirst}
 use Rattle.range.specs.declared.After.{After}
 use Rattle.range.specs.declared.After.the-variants.{Leaf, Missing}
@@ -93,13 +93,6 @@ module _ (rec key tag : List ℕ) (n : ℕ) (short : getD rec 1 0 ≤ length key
 
 module _ {f : Frame} {words keys : List ℕ} {d : Option (Tree Held)} (s : Shown f words keys d) where
   -- ── the leaves are different ones of the pool ──
-  pub leaf-used : (n : ℕ) → In n (leaves-of d) → Used (cellOf f words keys (leaf-place n))
-  leaf-used = go d s
-    where
-      go : (d : Option (Tree Held)) → Shown f words keys d → (n : ℕ) → In n (leaves-of d) → Used (cellOf f words keys (leaf-place n))
-      go none s n i = elim i [ ]
-      go (some t) s n i = subst Used (sym (s .cells (leaf-place n))) (store-on t [] (leaf-place n) (leaf-spot t n i))
-
   all-different : Different (leaves-of d)
   all-different = go d s
     where
@@ -110,7 +103,7 @@ module _ {f : Frame} {words keys : List ℕ} {d : Option (Tree Held)} (s : Shown
   -- so the pool has room for all held tags
   pub held-few : length (held d) ≤ getD (f .caps) 5 0
   held-few =
-      let low : (n : ℕ) → In n (leaves-of d) → n < getD (f .caps) 5 0 = λ n i. ltb-true _ _ (used-place f words keys (leaf-place n) (leaf-used n i) .0) in
+      let low : (n : ℕ) → In n (leaves-of d) → n < getD (f .caps) 5 0 = λ n i. ltb-true _ _ (used-place f words keys (leaf-place n) (leaf-used s n i) .0) in
       omega (arith, few (getD (f .caps) 5 0) (leaves-of d) all-different low, ap length (numbers-held s), numbers-length (held d))
 
   -- ── the walk ──

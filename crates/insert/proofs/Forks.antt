@@ -22,11 +22,11 @@ use Rattle.records.specs.Own.{prefixAt}
 use Rattle.records.specs.View.{Held}
 use Rattle.edits.proofs.Inners.{PrefixFits}
 use Rattle.art.specs.Tags.{Tag}
-use Rattle.art.specs.Stores.{Place, leaf-place, inner-place, Cell, unused, leaf-cell, inner-cell, Store, Edits, write, apply, cell-tag}
+use Rattle.art.specs.Stores.{Place, leaf-place, inner-place, Cell, unused, leaf-cell, inner-cell, Store, write, apply, cell-tag}
 use Rattle.art.specs.Refs.{Refs, pair-ref}
 use Rattle.art.specs.Chain.{Links, leaf-ref}
 use Rattle.art.specs.Points as art
-use Rattle.art.specs.Points.{UpFits, ChildAt, ForkFits, tag-at, trim, shorten}
+use Rattle.art.specs.Points.{ChildAt, ForkFits, tag-at, trim, shorten}
 use Rattle.art.proofs.Stores.{write-other}
 use Rattle.view.specs.Pools.{FreeAt}
 use Rattle.whole.specs.Witness.{tagLen, tagAt}
@@ -37,9 +37,8 @@ use Rattle.writes.specs.Above.{linkUp}
 use Rattle.states.specs.State.{State}
 use Rattle.states.proofs.Steps.{state-here, state-prefix-is, state-prefix-fits, state-leaf, state-zero, state-prefix, state-branch}
 use Rattle.pointed.specs.Told.{upTold}
+use Rattle.pointed.proofs.Ups.{UpOff, UpSame, off-same, same-then, up-used, up-off, up-edits, up-root, up-there, up-linked}
 use Rattle.insert.specs.Apply.{cutAt, forked, CutOrLeaf, ForkReady}
-use Rattle.insert.proofs.Ups.{UpOff, UpSame, up-kept, up-used, up-off, up-edits, up-edits-same, up-root, up-there, up-linked}
-use Rattle.insert.proofs.Intos.{off-same, same-then}
 use Rattle.insert.proofs.Runs.{RunAt, PlaceRun, run-room, run-there}
 use Rattle.insert.proofs.Prefixes.{run-fits, prefix-is}
 
@@ -205,9 +204,6 @@ module _ {f : Frame} {words keys : List ℕ} {σ : Store Held} {links : Links} {
       same-then σ below (write below z branched) (upTold up) (cut-same s (leaf / 8) d c t fork-tag (upTold up) y (up-off σ apart (upTold up) y (fits .above)))
       (off-same below (upTold up) z branched (up-used σ (upTold up) y z (fits .above) new-free))
 
-  above-fits : UpFits (write below z branched) (upTold up) y
-  above-fits = up-kept σ (write below z branched) (upTold up) y above-same (fits .above)
-
   pub fork-ready : ForkReady f words keys tag up ref (m * 8 + j) leaf d c (leaf-ref n)
   fork-ready = record {
     seen = there .seen;
@@ -217,11 +213,9 @@ module _ {f : Frame} {words keys : List ℕ} {σ : Store Held} {links : Links} {
     below-pool = there .pool;
     cut = cut-ready s (leaf / 8) d c t fork-tag y run;
     to = subst (InnerPlace f) (sym new-place) (record { pool = free .pool; low = new-kinds .0; high = new-kinds .1 });
-    above = up-there branch-state up y above-fits;
+    above = up-there branch-state σ up y above-same (fits .above);
   }
 
   pub fork-state : State f (linkUp f up (m * 8 + j) (forked f ref (m * 8 + j) tag t d c (leaf-ref n) words)) keys
       (apply (write below z branched) (up-edits σ (upTold up) z)) links (up-root (upTold up) root (m * 8 + j)) count
-  fork-state =
-      subst (λ (es : Edits Held). State f (linkUp f up (m * 8 + j) (forked f ref (m * 8 + j) tag t d c (leaf-ref n) words)) keys (apply (write below z branched) es) links (up-root (upTold up) root (m * 8 + j)) count)
-      (up-edits-same σ (write below z branched) (upTold up) z above-same) (up-linked branch-state up y z above-fits (free .pool))
+  fork-state = up-linked branch-state σ up y z above-same (fits .above) (free .pool)

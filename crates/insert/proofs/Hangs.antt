@@ -39,11 +39,11 @@ use Rattle.states.specs.State.{State}
 use Rattle.states.proofs.Steps.{state-pool, state-zero}
 use Rattle.writes.specs.Above.{linkUp}
 use Rattle.pointed.specs.Told.{upTold, told}
+use Rattle.pointed.proofs.Aparts.{up-apart}
+use Rattle.pointed.proofs.Ups.{up-edits, up-root}
 use Rattle.insert.specs.declared.plan.Site.{Site}
 use Rattle.insert.specs.Apply.{forked, hung}
-use Rattle.insert.proofs.Aparts.{up-apart}
 use Rattle.insert.proofs.Plans.{Planned, first, adds, grows, forks}
-use Rattle.insert.proofs.Ups.{up-edits, up-root}
 use Rattle.insert.proofs.Runs.{PlaceRun}
 use Rattle.insert.proofs.Intos.{add-state, grow-state}
 use Rattle.insert.proofs.Forks.{fork-tag, fork-state}

@@ -17,9 +17,8 @@ use Rattle.art.specs.Tags.{Tag}
 use Rattle.art.specs.Stores.{Place, leaf-place, inner-place, Cell, unused, inner-cell, Store, write, apply, Used}
 use Rattle.art.specs.Refs.{Refs, add-ref}
 use Rattle.art.specs.Chain.{Links, leaf-ref}
-use Rattle.art.specs.Points as art
-use Rattle.art.specs.Points.{UpFits, ChildAt, IntoFits}
-use Rattle.art.proofs.Stores.{used-not, write-same, write-other, write-write, write-comm}
+use Rattle.art.specs.Points.{ChildAt, IntoFits}
+use Rattle.art.proofs.Stores.{used-not, write-same, write-write, write-comm}
 use Rattle.view.specs.Pools.{FreeAt}
 use Rattle.points.specs.There.{InnerHere, UpThere}
 use Rattle.points.specs.declared.insert_point.Up.{Up}
@@ -28,8 +27,8 @@ use Rattle.writes.specs.Above.{linkUp}
 use Rattle.states.specs.State.{State}
 use Rattle.states.proofs.Steps.{state-pool, state-here, state-count-word, state-zero, state-add, state-move, state-clear}
 use Rattle.pointed.specs.Told.{upTold}
+use Rattle.pointed.proofs.Ups.{UpSame, off-same, same-then, up-used, up-off, up-edits, up-root, inner-here, up-there, up-linked}
 use Rattle.insert.specs.Apply.{grown, GrowReady}
-use Rattle.insert.proofs.Ups.{UpOff, UpSame, up-kept, up-used, up-off, up-edits, up-edits-same, up-root, inner-here, up-there, up-linked}
 
 -- a larger kind has room for more children
 children-rise : (k j : ℕ) → 1 ≤ k → k < j → j ≤ 4 → childrenOf k < childrenOf j
@@ -44,15 +43,6 @@ children-rise k j low less high = by-kind (λ i. i < j → childrenOf i < childr
 
     above-3 : 3 < j → 48 < childrenOf j
     above-3 h = by-kind (λ i. 3 < i → 48 < childrenOf i) (λ l. absurd (omega arith)) (λ l. absurd (omega arith)) (λ l. absurd (omega arith)) (λ l. omega arith) j (omega arith) high h
-
--- a record above has its cell still where others are written
-pub off-same : (σ : Store Held) (up : art.Up) (x : Place) (c : Cell Held) → UpOff up x → UpSame σ (write σ x c) up
-off-same σ art.top x c h = tt
-off-same σ (art.via k n b) x c h = write-other σ x c (inner-place k n) h
-
-pub same-then : (σ τ ρ : Store Held) (up : art.Up) → UpSame σ τ up → UpSame τ ρ up → UpSame σ ρ up
-same-then σ τ ρ art.top h i = tt
-same-then σ τ ρ (art.via k n b) h i = i ∙ h
 
 module _ {f : Frame} {words keys : List ℕ} {σ : Store Held} {links : Links} {root count : ℕ} (s : State f words keys σ links root count)
     (tag : Tag) (up : Up) (ref byte : ℕ) (fits : IntoFits σ tag (upTold up) (ref % 8) (ref / 8) byte) where
@@ -139,11 +129,8 @@ module _ {f : Frame} {words keys : List ℕ} {σ : Store Held} {links : Links} {
         same-then σ (write σ x unused) (write (write σ x unused) y (added n)) (upTold up) (off-same σ (upTold up) x unused (up-off σ apart (upTold up) x (fits .above)))
         (off-same (write σ x unused) (upTold up) y (added n) (up-used σ (upTold up) x y (fits .above) new-free))
 
-    above-fits : UpFits (write (write σ x unused) y (added n)) (upTold up) x
-    above-fits = up-kept σ (write (write σ x unused) y (added n)) (upTold up) x above-same (fits .above)
-
     there : UpThere f (grown f x y byte (leaf-ref n) words) up
-    there = up-there larger up x above-fits
+    there = up-there larger σ up x above-same (fits .above)
 
     ready : Moves f words x y × Roomy f (moveAt f x y words) y × UpThere f (grown f x y byte (leaf-ref n) words) up
     ready = (
@@ -163,6 +150,4 @@ module _ {f : Frame} {words keys : List ℕ} {σ : Store Held} {links : Links} {
     grow-state =
         let at : (p q : Place) → Type 0 = λ p q. State f (linkUp f up (m * 8 + j) (grown f p q byte (leaf-ref n) words)) keys
         (apply (write (write σ x unused) y (added n)) (up-edits σ (upTold up) y)) links (up-root (upTold up) root (m * 8 + j)) count in
-        subst (λ (p : Place). at p (placeAt (m * 8 + j))) (sym into-place) (subst (at x) (sym new-place)
-        (subst (λ es. State f (linkUp f up (m * 8 + j) (grown f x y byte (leaf-ref n) words)) keys (apply (write (write σ x unused) y (added n)) es) links (up-root (upTold up) root (m * 8 + j)) count)
-        (up-edits-same σ (write (write σ x unused) y (added n)) (upTold up) y above-same) (up-linked larger up x y above-fits (free .pool))))
+        subst (λ (p : Place). at p (placeAt (m * 8 + j))) (sym into-place) (subst (at x) (sym new-place) (up-linked larger σ up x y above-same (fits .above) (free .pool)))

@@ -1,11 +1,9 @@
-pub mod Aparts
 pub mod Plans
 pub mod Few
 pub mod Afters
 pub mod Gaps
 pub mod Runs
 pub mod Prefixes
-pub mod Ups
 pub mod Intos
 pub mod Forks
 pub mod Ready

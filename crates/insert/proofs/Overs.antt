@@ -10,7 +10,7 @@ use lib.ListN.{length, getD}
 use lib.Dec.{eqb, ltb}
 use borrow.Author.Tests.{eqb-false}
 use Rattle.lists.specs.Scan.{choose}
-use Rattle.frames.specs.Frame.{rootWord}
+use Rattle.frames.specs.Frame.{FrameOf, rootWord}
 use Rattle.frames.specs.Place.{refOf, recordAt}
 use Rattle.frames.specs.declared.frame.Frame.{Frame}
 use Rattle.records.specs.Own.{totalOf}
@@ -53,15 +53,14 @@ use Rattle.states.proofs.Steps.{state-leaf, state-total}
 use Rattle.states.proofs.Sounds.{sound-state, state-sound}
 use Rattle.pointed.specs.Told.{upTold, told}
 use Rattle.pointed.proofs.Sounds.{sound-shown}
+use Rattle.pointed.proofs.Neighbours.{numberOf, numbered}
 use Rattle.insert.specs.Meets.{newTotal}
 use Rattle.insert.specs.declared.plan.Site.the-variants.{Root}
 use Rattle.insert.specs.declared.plan.Choice.{Choice}
 use Rattle.insert.specs.declared.plan.Choice.the-variants.{At, Nowhere}
 use Rattle.insert.specs.declared.plan.Plan.the-variants.{Over, NoLeaf}
 use Rattle.insert.specs.Plan.{intoChoice, forkChoice, newPlan, sitePlan, leafPlan, pointPlan, planOf}
-use Rattle.insert.proofs.Gaps.{numberOf}
 use Rattle.insert.proofs.Ready.{told-point, told-fits}
-use Rattle.insert.proofs.Sounds.{numbered}
 
 -- ── the plan taken apart ──
 pub record Holding (f : Frame) (words keys tag : List ℕ) (leaf : ℕ) : Type 0 where
@@ -177,7 +176,16 @@ module _ {words keys : List ℕ} (s : Sound words keys) (tag : List ℕ) (bytes 
       go none sh st r = absurd (plan-over f words keys tag leaf e .root r)
       go (some t) sh st r = tree-holds sh st r tag bytes leaf (plan-over f words keys tag leaf e)
 
-  -- with another total the block is sound, and its list has the tag with it
+  -- with another total the block has its frame still
+  pub over-fits : (total : ℕ) → FrameOf f (totalAt f (leaf / 8) total words) keys
+  over-fits total = go (s .tree) (sound-shown s) (sound-state s) (s .rooted)
+    where
+      go : (d : Option (Tree Held)) → Shown f words keys d → State f words keys (store-of d) (linksOf f words) (rootWord words) (length (held d)) → Rooted (rootWord words) d
+          → FrameOf f (totalAt f (leaf / 8) total words) keys
+      go none sh st r = absurd (plan-over f words keys tag leaf e .root r)
+      go (some t) sh st r = over-state sh st r tag bytes leaf (plan-over f words keys tag leaf e) total .frame
+
+  -- it is sound, and its list has the tag with the total
   pub over-sound : (total : ℕ) → (s′ : Sound (totalAt (frame words) (leaf / 8) total words) keys) × (held (s′ .tree) ≡ alter (λ h. some (newTotal total h)) tag (held (s .tree)))
   over-sound total = go (s .tree) (sound-shown s) (sound-state s) (s .rooted)
     where

@@ -11,14 +11,15 @@ use Rattle.art.specs.Tags.{Tag}
 use Rattle.art.specs.Trees.{Tree, Good}
 use Rattle.art.specs.Changes.{Plan, grow}
 use Rattle.art.specs.Facts.{height}
-use Rattle.art.specs.Stores.{Place, leaf-place, inner-place, place-dec, home-place, Cell, unused, leaf-cell, inner-cell, Store, Edits, write, apply, root, store, Once, Used, Fresh}
+use Rattle.art.specs.Stores.{Place, leaf-place, inner-place, home-place, Cell, unused, leaf-cell, inner-cell, Store, Edits, write, apply, root, store, Once, Used, Fresh}
 use Rattle.art.specs.Refs.{add-ref, pair-ref}
 use Rattle.art.specs.Points.{Up, top, via, Point, holds, clashes, into, fork, broken, point, insert-at, insert-root, new-root, relink-up, add-cell, shorten, tag-at, IntoFits}
-use Rattle.art.proofs.Stores.{leaf-inner, write-other, write-write, write-comm, apply-append, used-not}
+use Rattle.art.proofs.Stores.{leaf-inner, write-write, apply-append, used-not}
 use Rattle.art.proofs.Walks.{store-shows}
 use Rattle.art.proofs.InsertPoints.{stays, relink-up-none, insert-makes, insert-moves}
 use Rattle.art.proofs.Reach.{Reach, held-leaf, short-leaf, long-leaf, part-leaf, same-run, short-run, part-run, no-kid, a-kid, seek-reaches}
-use Rattle.insert.proofs.Ups.{up-edits, relink-is, up-root, up-rooted}
+use Rattle.pointed.proofs.Ups.{up-edits, relink-is, up-root, up-rooted}
+use Rattle.pointed.proofs.Inners.{Inners, leaf-stays, leaf-first, relink-inners}
 
 -- ── a record that a tag goes into, with none above it, is the root ──
 abbrev PointTop : Place → Up → Point → Type 0
@@ -47,39 +48,11 @@ module _ {A : Type 0} (σ : Store A) where
   reach-top (no-kid x w e em nh eh h) = λ q. (q, refl)
   reach-top (a-kid {k} {n} {run} {r} {p} {u} {upper} {up} {pt} x w e em i eh h hr kid b) = lower (inner-place k n) (root (kid .tree)) up k n x pt (reach-top b)
 
--- ── the leaf written last ──
-no-leaf : (k m n : ℕ) → inner-place k m ≢ leaf-place n
-no-leaf k m n e = leaf-inner n k m (sym e)
-
+-- ── the writes of an insert are at inner records ──
 module _ {A : Type 0} where
-  -- none of the writes is at a leaf
-  abbrev Inners : Edits A → Type 0
-  Inners [] = Unit {0}
-  Inners (e ∷ es) = ((n : ℕ) → e .0 ≢ leaf-place n) × Inners es
-
-  leaf-kept : (σ : Store A) (es : Edits A) → Inners es → (n : ℕ) → apply σ es (leaf-place n) ≡ σ (leaf-place n)
-  leaf-kept σ [] h n = refl
-  leaf-kept σ (e ∷ es) h n = leaf-kept (write σ (e .0) (e .1)) es (h .1) n ∙ write-other σ (e .0) (e .1) (leaf-place n) (λ q. h .0 n (sym q))
-
-  leaf-last : (σ : Store A) (es : Edits A) → Inners es → (n : ℕ) (c : Cell A) → apply (write σ (leaf-place n) c) es ≡ write (apply σ es) (leaf-place n) c
-  leaf-last σ [] h n c = refl
-  leaf-last σ (e ∷ es) h n c =
-      ap (λ (τ : Store A). apply τ es) (write-comm σ (leaf-place n) (e .0) c (e .1) (h .0 n)) ∙ leaf-last (write σ (e .0) (e .1)) es (h .1) n c
-
-  up-inners : (σ : Store A) (up : Up) (y : Place) → Inners (up-edits σ up y)
-  up-inners σ top y = tt
-  up-inners σ (via k n b) y = ((λ m. no-leaf k n m), tt)
-
   shorten-inners : (t : Tag) (d c : ℕ) (y : Place) (e : Cell A) → Inners (shorten t d c y e)
   shorten-inners t d c (leaf-place n) e = tt
-  shorten-inners t d c (inner-place k n) e = ((λ m. no-leaf k n m), tt)
-
-  relink-inners : (σ : Store A) (up : Up) (old new : Place) → Inners (relink-up σ up old new)
-  relink-inners σ up old new = go (place-dec old new)
-    where
-      go : Dec (old ≡ new) → Inners (relink-up σ up old new)
-      go (yes e) = subst Inners (sym (ap (λ (y : Place). relink-up σ up old y) (sym e) ∙ relink-up-none σ up old)) tt
-      go (no ne) = subst Inners (sym (relink-is σ up old new ne)) (up-inners σ up new)
+  shorten-inners t d c (inner-place k n) e = (λ m. leaf-inner m k n, tt)
 
 -- ── what the tree's writes make ──
 -- with the leaf's cell written, τ is the store of the tree grown by some plan, and ref names its root; τ has the leaves of t
@@ -111,11 +84,11 @@ module _ (t : Tree Held) (good : Good t) (once : Once t []) (f : ℕ) (low : hei
     writes y = (here, unused) ∷ (y, add-cell x (leaf-place n) (σ here)) ∷ relink-up σ up here y
 
     writes-inners : (i j : ℕ) → Inners (writes (inner-place i j))
-    writes-inners i j = ((λ l. no-leaf k m l), ((λ l. no-leaf i j l), relink-inners σ up here (inner-place i j)))
+    writes-inners i j = ((λ l. leaf-inner l k m), ((λ l. leaf-inner l i j), relink-inners σ up here (inner-place i j)))
 
     into-makes : (pl : Plan) → pl .leaf-number ≡ n → Fresh pl σ → (a : Held) → write (apply σ (writes (home-place pl k m))) (leaf-place n) (leaf-cell tag a) ≡ store (grow t pl tag a) []
     into-makes pl e fresh a =
-        sym (leaf-last σ (writes (home-place pl k m)) (writes-inners ((pl .home k m) .0) ((pl .home k m) .1)) n (leaf-cell tag a))
+        sym (leaf-first σ (writes (home-place pl k m)) (writes-inners ((pl .home k m) .0) ((pl .home k m) .1)) n (leaf-cell tag a))
         ∙ ap (λ (l : ℕ). apply (write σ (leaf-place l) (leaf-cell tag a)) ((here, unused) ∷ (home-place pl k m, add-cell x (leaf-place l) (σ here)) ∷ relink-up σ up here (home-place pl k m))) (sym e)
         ∙ ap (λ (pt : Point). apply σ (insert-at σ pl tag a pt)) (sym at)
         ∙ insert-makes f t good once low pl fresh tag a
@@ -140,7 +113,7 @@ module _ (t : Tree Held) (good : Good t) (once : Once t []) (f : ℕ) (low : hei
             fresh = fresh;
             makes = λ a. ap (λ (τ : Store Held). write τ (leaf-place n) (leaf-cell tag a)) (sym same) ∙ into-makes pl refl fresh a;
             moves = λ a. e ∙ ap refOf (stays up (root t) here (λ q. sym (top-is q)) ∙ into-moves pl a);
-            kept = λ l. ap (λ (τ : Store Held). τ (leaf-place l)) (sym same) ∙ leaf-kept σ (writes here) (writes-inners k m) l;
+            kept = λ l. ap (λ (τ : Store Held). τ (leaf-place l)) (sym same) ∙ leaf-stays σ (writes here) (writes-inners k m) l;
           }
 
       -- moved to y
@@ -158,7 +131,7 @@ module _ (t : Tree Held) (good : Good t) (once : Once t []) (f : ℕ) (low : hei
             fresh = fresh;
             makes = λ a. ap (λ (τ : Store Held). write τ (leaf-place n) (leaf-cell tag a)) (sym same) ∙ into-makes pl refl fresh a;
             moves = λ a. up-rooted up ref (root t) y e ∙ ap refOf (into-moves pl a);
-            kept = λ l. ap (λ (τ : Store Held). τ (leaf-place l)) (sym same) ∙ leaf-kept σ (writes y) (writes-inners i j) l;
+            kept = λ l. ap (λ (τ : Store Held). τ (leaf-place l)) (sym same) ∙ leaf-stays σ (writes y) (writes-inners i j) l;
           }
 
   -- ── a branching more ──
@@ -173,7 +146,7 @@ module _ (t : Tree Held) (good : Good t) (once : Once t []) (f : ℕ) (low : hei
     branch l = inner-cell c (take 8 (take c (drop d tag))) (pair-ref (getD tag (d + c) 0) (leaf-place l) (getD (tag-at σ w) (d + c) 0) y)
 
     rest-inners : Inners ((z, branch n) ∷ relink-up σ up y z)
-    rest-inners = ((λ m. no-leaf i j m), relink-inners σ up y z)
+    rest-inners = ((λ m. leaf-inner m i j), relink-inners σ up y z)
 
     pub fork-planted : (ref : ℕ) → ref ≡ refOf (root t) → Planted t tag n (apply (write (apply σ short) z (branch n)) (up-edits σ up z)) (up-root up ref (refOf z))
     fork-planted ref e =
@@ -186,8 +159,8 @@ module _ (t : Tree Held) (good : Good t) (once : Once t []) (f : ℕ) (low : hei
           plan = pl;
           number = refl;
           fresh = fresh;
-          makes = λ a. ap (λ (ρ : Store Held). write ρ (leaf-place n) (leaf-cell tag a)) (sym same) ∙ sym (leaf-last τ rest rest-inners n (leaf-cell tag a))
+          makes = λ a. ap (λ (ρ : Store Held). write ρ (leaf-place n) (leaf-cell tag a)) (sym same) ∙ sym (leaf-first τ rest rest-inners n (leaf-cell tag a))
               ∙ sym (apply-append σ short ((leaf-place n, leaf-cell tag a) ∷ rest)) ∙ ap (λ (pt : Point). apply σ (insert-at σ pl tag a pt)) (sym at) ∙ insert-makes f t good once low pl fresh tag a;
           moves = λ a. up-rooted up ref (root t) z e ∙ ap refOf (ap (λ (pt : Point). insert-root pl pt (root t)) (sym at) ∙ insert-moves f σ t good (store-shows t [] once) low pl tag a);
-          kept = λ l. ap (λ (ρ : Store Held). ρ (leaf-place l)) (sym same) ∙ leaf-kept τ rest rest-inners l ∙ leaf-kept σ short (shorten-inners (tag-at σ w) d c y (σ y)) l;
+          kept = λ l. ap (λ (ρ : Store Held). ρ (leaf-place l)) (sym same) ∙ leaf-stays τ rest rest-inners l ∙ leaf-stays σ short (shorten-inners (tag-at σ w) d c y (σ y)) l;
         }

@@ -38,12 +38,12 @@ use Rattle.states.proofs.Sounds.{sound-state}
 use Rattle.pointed.specs.Told.{upTold, told}
 use Rattle.pointed.proofs.Points.{point-shown}
 use Rattle.pointed.proofs.Sounds.{sound-shown}
+use Rattle.pointed.proofs.Aparts.{up-apart}
 use Rattle.insert.specs.declared.plan.Site.{Site}
 use Rattle.insert.specs.declared.plan.Plan.the-variants.{New}
 use Rattle.insert.specs.Plan.{planOf}
 use Rattle.insert.specs.Apply.{SiteReady, NewReady}
 use Rattle.points.proofs.There.{point-there}
-use Rattle.insert.proofs.Aparts.{up-apart}
 use Rattle.insert.proofs.Plans.{Planned, first, adds, grows, forks, Newly, plan-new}
 use Rattle.insert.proofs.Afters.{held-few}
 use Rattle.insert.proofs.Gaps.{next-used, previous-used}

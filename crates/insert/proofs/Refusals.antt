@@ -12,7 +12,7 @@ use borrow.Author.Tests.{eqb-true, eqb-false, ltb-true, ltb-false}
 use Rattle.lists.specs.Scan.{choose}
 use Rattle.frames.specs.Kind.{childrenOf}
 use Rattle.frames.specs.Frame.{rootWord}
-use Rattle.frames.specs.Place.{placeAt, inPool, recordAt}
+use Rattle.frames.specs.Place.{placeAt, recordAt}
 use Rattle.frames.specs.declared.frame.Frame.{Frame}
 use Rattle.records.specs.View.{Held}
 use Rattle.art.specs.Tags.{Tag}
@@ -50,6 +50,7 @@ use Rattle.states.proofs.Steps.{state-count-word, state-zero}
 use Rattle.states.proofs.Sounds.{sound-state}
 use Rattle.pointed.specs.Told.{upTold, told}
 use Rattle.pointed.proofs.Sounds.{sound-shown}
+use Rattle.pointed.proofs.Ups.{inner-here}
 use Rattle.insert.specs.declared.plan.Site.{Site}
 use Rattle.insert.specs.declared.plan.Site.the-variants.{Root, Add}
 use Rattle.insert.specs.declared.plan.Choice.{Choice}
@@ -59,7 +60,6 @@ use Rattle.insert.specs.declared.plan.Plan.the-variants.{Over, New, Clas
 use Rattle.insert.specs.Room.{LeavesFull, InnersFull, Lacks, Lacking, Answers}
 use Rattle.insert.specs.Plan.{growChoice, intoChoice, forkWith, forkChoice, newPlan, sitePlan, leafPlan, pointPlan, planOf}
 use Rattle.insert.proofs.Afters.{afterIs, after-shown}
-use Rattle.insert.proofs.Ups.{inner-here}
 use Rattle.insert.proofs.Ready.{told-point, told-fits, into-fits}
 use Rattle.insert.proofs.Hangs.{root-not}
 

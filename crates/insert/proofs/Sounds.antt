@@ -1,59 +1,53 @@
 -- After a new leaf the block is sound again, and its list is the old one with the tag put in: its cells are those of the grown tree, and its links those of the grown tree's leaves.
 use Prim.Native.Nat.{ℕ, _+_, _≤_}
 use mathlib.Core.Path.{_≡_, refl, sym, ap, ap₂, subst, _∙_}
-use mathlib.Core.Logic.{_⊎_, inl, inr}
 use mathlib.Core.List.{List, [], _∷_}
 use mathlib.Core.Option.{Option, none, some}
 use native.Mathlib.Omega.{arith}
 use lib.ListN.{length}
-use Rattle.frames.specs.Frame.{rootWord, countWord}
+use Rattle.frames.specs.Frame.{FrameOf, rootWord, countWord}
 use Rattle.frames.specs.Place.{refOf}
 use Rattle.frames.specs.declared.frame.Frame.{Frame}
-use Rattle.records.specs.View.{Held, cellOf}
+use Rattle.records.specs.View.{Held}
 use Rattle.art.specs.Tags.{Tag}
 use Rattle.art.specs.Trees.{Tree, leaf, contents}
 use Rattle.art.specs.Puts.{put}
 use Rattle.art.specs.Changes.{Plan, grow}
 use Rattle.art.specs.Deletes.{held}
 use Rattle.art.specs.Orders.{after}
-use Rattle.art.specs.Stores.{leaf-place, leaf-cell, unused, Store, write, root, store, Used}
-use Rattle.art.specs.Chain.{Links, Linked, Numbered, leaf-ref, before-ref, link-in, ref-of, leaves}
+use Rattle.art.specs.Stores.{leaf-place, leaf-cell, unused, Store, write, root, store}
+use Rattle.art.specs.Chain.{Links, Linked, leaf-ref, before-ref, link-in, ref-of, leaves}
 use Rattle.art.specs.Points.{store-of}
 use Rattle.art.proofs.Changes.{grow-contents, grow-good}
 use Rattle.art.proofs.Counts.{grow-count}
 use Rattle.art.proofs.Stores.{once-grow}
 use Rattle.art.proofs.Chains.{linked-before, linked-in}
-use Rattle.art.proofs.Leaves.{shows-numbered, grow-linked}
-use Rattle.view.specs.Links.{UsedOrEnd, linksOf}
+use Rattle.art.proofs.Leaves.{grow-linked}
+use Rattle.view.specs.Links.{linksOf}
 use Rattle.view.proofs.Pools.{free-leaf}
-use Rattle.view.proofs.Seen.{seen-leaf}
 use Rattle.whole.specs.Sound.{frame, Rooted, Sound}
 use Rattle.reading.specs.Answers.{Bytes}
 use Rattle.reading.specs.Shown.{Shown}
-use Rattle.reading.proofs.Entries.{tree-shows}
 use Rattle.writes.specs.Leaf.{keyIn}
 use Rattle.writes.specs.declared.leaf_node.Gap.{Gap}
 use Rattle.states.specs.State.{State}
-use Rattle.states.proofs.Standing.{used-end, end-used}
+use Rattle.states.proofs.Standing.{kept-end}
 use Rattle.states.proofs.Steps.{state-zero, state-root, state-count, state-leaf-in}
 use Rattle.states.proofs.Sounds.{sound-state, state-sound}
 use Rattle.pointed.proofs.Sounds.{sound-shown}
+use Rattle.pointed.proofs.Neighbours.{numberOf, numbered}
 use Rattle.insert.specs.declared.plan.Site.{Site}
 use Rattle.insert.specs.declared.plan.Plan.the-variants.{New}
 use Rattle.insert.specs.Plan.{planOf}
 use Rattle.insert.specs.Apply.{hung, newWords}
 use Rattle.insert.proofs.Plans.{Planned, first, adds, grows, forks, Newly, plan-new}
-use Rattle.insert.proofs.Gaps.{numberOf, gap-next, gap-previous, next-used, previous-used}
+use Rattle.insert.proofs.Gaps.{gap-next, gap-previous, next-used, previous-used}
 use Rattle.insert.proofs.Ready.{new-pool}
 use Rattle.insert.proofs.Hangs.{Hung, hung-tree}
 
--- each leaf of a tree that is shown holds its own number
-pub numbered : {f : Frame} {words keys : List ℕ} {t : Tree Held} → Shown f words keys (some t) → Numbered numberOf t
-numbered {f} {words} {keys} {t} s = shows-numbered numberOf (cellOf f words keys) (λ m v h e. seen-leaf f words keys m v h e .number-is) t [] (tree-shows s)
-
--- the block is sound, and holds what d held and the tag
-abbrev pub NowHolds : (words keys : List ℕ) → Tag → Held → Option (Tree Held) → Type 0
-NowHolds words keys tag a d = (s : Sound words keys) × (held (s .tree) ≡ put tag a (held d))
+-- the block has the frame, is sound, and holds what d held and the tag
+abbrev NowHolds : Frame → (words keys : List ℕ) → Tag → Held → Option (Tree Held) → Type 0
+NowHolds f words keys tag a d = FrameOf f words keys × (s : Sound words keys) × (held (s .tree) ≡ put tag a (held d))
 
 module _ {f : Frame} {words keys tag : List ℕ} {site : Site} {n : ℕ} {gap : Gap} (total : ℕ) (short : length tag ≤ f .form .limit) (p : Newly f words keys tag site n gap) where
   abbrev a : Held
@@ -72,12 +66,7 @@ module _ {f : Frame} {words keys tag : List ℕ} {site : Site} {n : ℕ} {gap : 
     unfolding newWords
     new-state τ ref h kept =
         state-count (state-leaf-in h n (gap .previous) (gap .next) total tag (new-pool s p) short
-        (still (gap .previous) (end-used st (gap .previous) (previous-used s tag gap (p .placed)))) (still (gap .next) (end-used st (gap .next) (next-used s tag gap (p .placed)))))
-        (countWord words + 1)
-      where
-        still : (r : ℕ) → (r ≡ 0) ⊎ ((m : ℕ) × (r ≡ leaf-ref m) × Used (store-of d (leaf-place m))) → UsedOrEnd f (hung f keys tag site (leaf-ref n) words) keys r
-        still r (inl e) = inl e
-        still r (inr u) = used-end h r (inr (u .0, u .1, subst Used (sym (kept (u .0))) (u .2)))
+        (kept-end st h kept (gap .previous) (previous-used s tag gap (p .placed))) (kept-end st h kept (gap .next) (next-used s tag gap (p .placed)))) (countWord words + 1)
 
   -- ── in a tree ──
   module _ {t : Tree Held} (s : Shown f words keys (some t)) (st : State f words keys (store t []) (linksOf f words) (rootWord words) (length (contents t))) (rooted : rootWord words ≡ refOf (root t)) where
@@ -91,14 +80,14 @@ module _ {f : Frame} {words keys tag : List ℕ} {site : Site} {n : ℕ} {gap : 
         ∙ ap₂ (λ (x y : ℕ). link-in k n x y) (sym (gap-previous s tag gap (p .placed))) (sym (gap-next s tag gap (p .placed))))
         (grow-linked numberOf k t (s .good) (s .once) (numbered s) pl tag a (sym (h .planted .number)) (h .apart) (h .planted .fresh .0) (s .linked))
 
-    tree-sound : Hung f (hung f keys tag site (leaf-ref n) words) keys t tag n (linksOf f words) (length (contents t)) → NowHolds (newWords f keys tag total site n gap words) (keyIn f n tag keys) tag a (some t)
+    tree-sound : Hung f (hung f keys tag site (leaf-ref n) words) keys t tag n (linksOf f words) (length (contents t)) → NowHolds f (newWords f keys tag total site n gap words) (keyIn f n tag keys) tag a (some t)
     tree-sound h =
         let pl : Plan = h .planted .plan in
         let made = subst (λ (σ : Store Held). State f (newWords f keys tag total site n gap words) (keyIn f n tag keys) σ (link-in (linksOf f words) n (gap .previous) (gap .next)) (h .ref) (countWord words + 1))
         (h .planted .makes a) (new-state s st (h .cells) (h .ref) (h .state) (h .planted .kept)) in
         let done = state-sound (some (grow t pl tag a)) made (grow-good t (s .good) pl tag a) (once-grow t pl [] tag a (s .once) (h .planted .fresh)) (h .planted .moves a) (tree-linked _ h)
         (omega (arith, st .count-is, grow-count t (s .good) pl tag a (h .apart))) in
-        (done .0, ap held (done .1) ∙ grow-contents t (s .good) pl tag a (h .apart))
+        (made .frame, done .0, ap held (done .1) ∙ grow-contents t (s .good) pl tag a (h .apart))
 
   -- ── the first tag ──
   module _ (s : Shown f words keys none) (st : State f words keys (store-of none) (linksOf f words) (rootWord words) 0) where
@@ -116,22 +105,29 @@ module _ {f : Frame} {words keys tag : List ℕ} {site : Site} {n : ℕ} {gap : 
         (ap₂ (λ (x y : ℕ). link-in k n x y) (sym (gap-previous s tag gap (p .placed) ∙ linked-before k [] [] (s .linked))) (sym (gap-next s tag gap (p .placed))))
         (linked-in k n [] [] tt (λ h. h) (s .linked))
 
-    first-sound : NowHolds (newWords f keys tag total site n gap words) (keyIn f n tag keys) tag a none
+    first-sound : NowHolds f (newWords f keys tag total site n gap words) (keyIn f n tag keys) tag a none
     first-sound =
-        let done = state-sound (some (leaf n tag a)) (new-state s st (store-of none) (leaf-ref n) (first-hung site (p .planned)) (λ m. refl)) tt tt refl first-linked (omega (arith, st .count-is)) in
-        (done .0, ap held (done .1))
+        let made = new-state s st (store-of none) (leaf-ref n) (first-hung site (p .planned)) (λ m. refl) in
+        let done = state-sound (some (leaf n tag a)) made tt tt refl first-linked (omega (arith, st .count-is)) in
+        (made .frame, done .0, ap held (done .1))
 
   -- ── either ──
   block-sound : Bytes tag → Bytes keys → (d : Option (Tree Held)) → Shown f words keys d → State f words keys (store-of d) (linksOf f words) (rootWord words) (length (held d)) → Rooted (rootWord words) d
-      → NowHolds (newWords f keys tag total site n gap words) (keyIn f n tag keys) tag a d
+      → NowHolds f (newWords f keys tag total site n gap words) (keyIn f n tag keys) tag a d
   block-sound tag-bytes key-bytes none s st r = first-sound s st
   block-sound tag-bytes key-bytes (some t) s st r =
       tree-sound s st r
       (hung-tree s (subst (λ (x : ℕ). State f words keys (store t []) (linksOf f words) x (length (contents t))) r st) tag tag-bytes key-bytes short n (new-pool s p) (leaf-free s st) site (p .planned))
 
--- a new leaf on a sound block: the block is sound, and its list has the tag put in with its leaf's number and its total
-pub insert-sound : {words keys : List ℕ} (s : Sound words keys) (tag : List ℕ) → Bytes tag → Bytes keys → length tag ≤ frame words .form .limit → (site : Site) (n : ℕ) (gap : Gap) (total : ℕ)
-    → planOf (frame words) words keys tag ≡ New site n gap
-    → (s′ : Sound (newWords (frame words) keys tag total site n gap words) (keyIn (frame words) n tag keys)) × (held (s′ .tree) ≡ put tag (record { number = n; total = total }) (held (s .tree)))
-insert-sound {words} {keys} s tag tag-bytes key-bytes short site n gap total e =
-    block-sound total short (plan-new (frame words) words keys tag site n gap e) tag-bytes key-bytes (s .tree) (sound-shown s) (sound-state s) (s .rooted)
+module _ {words keys : List ℕ} (s : Sound words keys) (tag : List ℕ) (tag-bytes : Bytes tag) (key-bytes : Bytes keys) (short : length tag ≤ frame words .form .limit) (site : Site) (n : ℕ) (gap : Gap) (total : ℕ)
+    (e : planOf (frame words) words keys tag ≡ New site n gap) where
+  made-sound : NowHolds (frame words) (newWords (frame words) keys tag total site n gap words) (keyIn (frame words) n tag keys) tag (record { number = n; total = total }) (s .tree)
+  made-sound = block-sound total short (plan-new (frame words) words keys tag site n gap e) tag-bytes key-bytes (s .tree) (sound-shown s) (sound-state s) (s .rooted)
+
+  -- after a new leaf a sound block has its frame still
+  pub insert-fits : FrameOf (frame words) (newWords (frame words) keys tag total site n gap words) (keyIn (frame words) n tag keys)
+  insert-fits = made-sound .0
+
+  -- it is sound, and its list has the tag put in with its leaf's number and its total
+  pub insert-sound : (s′ : Sound (newWords (frame words) keys tag total site n gap words) (keyIn (frame words) n tag keys)) × (held (s′ .tree) ≡ put tag (record { number = n; total = total }) (held (s .tree)))
+  insert-sound = (made-sound .1, made-sound .2)

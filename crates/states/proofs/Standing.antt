@@ -1,22 +1,15 @@
 -- A cell in use is that of a record that obeys its rule, so that its length, stored bytes and row are those of the record's words.
-use Prim.Native.Nat.{ℕ, _-_, _<_}
-use mathlib.Core.Path.{_≡_, refl, sym, ap, subst, _∙_}
-use mathlib.Core.Logic.{_⊎_, inl, inr}
+use Prim.Native.Nat.{ℕ, _<_}
+use mathlib.Core.Path.{_≡_, sym, ap, subst, _∙_}
+use mathlib.Core.Logic.{inl, inr}
 use mathlib.Core.List.{List}
-use mathlib.Core.Bool.{Bool, true}
+use mathlib.Core.Bool.{true}
 use native.Mathlib.Omega.{arith}
-use lib.ListN.{length, getD}
-use lib.Dec.{eqb}
-use borrow.Author.Tests.{eqb-true}
-use Rattle.lists.proofs.Tables.{every-at}
+use lib.ListN.{length}
 use Rattle.prefix.specs.Run.{held}
-use Rattle.frames.specs.Form.{forms, noForm, formKnown, formOf}
-use Rattle.frames.specs.Frame.{FrameOf, trailerOf, frameOf}
+use Rattle.frames.specs.Frame.{FrameOf}
 use Rattle.frames.specs.Place.{refOf, inPool, recordAt}
-use Rattle.frames.specs.declared.form.Form.{Form}
 use Rattle.frames.specs.declared.frame.Frame.{Frame}
-use Rattle.frames.proofs.FormTable.{form-in}
-use Rattle.frames.proofs.Frames.{totals}
 use Rattle.frames.proofs.Places.{inner-kind}
 use Rattle.records.specs.Own.{prefixAt}
 use Rattle.records.specs.Row.{rowAt}
@@ -24,26 +17,14 @@ use Rattle.records.specs.View.{Held, places, cellOf}
 use Rattle.art.specs.Tags.{Tag}
 use Rattle.art.specs.Stores.{Place, leaf-place, inner-place, leaf-cell, inner-cell, Store, Used}
 use Rattle.art.specs.Refs.{Refs}
-use Rattle.art.specs.Chain.{Links, leaf-ref}
+use Rattle.art.specs.Chain.{Links}
 use Rattle.edits.proofs.Inners.{Inner, inner-own, inner-size}
 use Rattle.view.specs.Links.{UsedOrEnd}
 use Rattle.view.specs.Seen.{LeafSeen, LeafObeys}
 use Rattle.view.proofs.Seen.{seen-leaf, seen-inner, leaf-obeys, inner-obeys}
 use Rattle.states.specs.State.{State}
 
--- eight prefix words in every known form
-prefixTest : ℕ → Form → Bool
-prefixTest n form = eqb (form .prefix) 8
-
-known-eight : (n : ℕ) → formKnown n ≡ true → formOf n .prefix ≡ 8
-unfolding formOf prefixTest
-known-eight n h = eqb-true _ _ (every-at prefixTest noForm forms 1 refl (n - 1) (form-in n h .1))
-
 module _ {f : Frame} {words keys : List ℕ} (w : FrameOf f words keys) where
-  pub form-eight : f .form .prefix ≡ 8
-  unfolding frameOf
-  form-eight = ap (λ (g : Frame). g .form .prefix) (w .read) ∙ known-eight (getD (trailerOf words) 0 0) (totals words keys (w .fits) .known)
-
   -- the reference to a place of a pool is not 0
   pub ref-some : (y : Place) → inPool f y ≡ true → 0 < refOf y
   ref-some (leaf-place n) h = omega arith
@@ -78,11 +59,9 @@ module _ {f : Frame} {words keys : List ℕ} {σ : Store Held} {links : Links} {
     pub leaf-stands : LeafObeys f words keys n t
     leaf-stands = leaf-obeys (s .frame) leaf-seen (s .rules (leaf-place n) (subst Used (sym e) tt))
 
-  -- 0, or a reference to a leaf in use
-  pub used-end : (ref : ℕ) → (ref ≡ 0) ⊎ ((n : ℕ) × (ref ≡ leaf-ref n) × Used (σ (leaf-place n))) → UsedOrEnd f words keys ref
-  used-end ref (inl e) = inl e
-  used-end ref (inr u) = inr (u .0, u .1, subst Used (sym (shown-at (leaf-place (u .0)))) (u .2))
-
-  pub end-used : (ref : ℕ) → UsedOrEnd f words keys ref → (ref ≡ 0) ⊎ ((n : ℕ) × (ref ≡ leaf-ref n) × Used (σ (leaf-place n)))
-  end-used ref (inl e) = inl e
-  end-used ref (inr u) = inr (u .0, u .1, subst Used (shown-at (leaf-place (u .0))) (u .2))
+-- 0, or a reference to a leaf in use, is one still where the words are written and every leaf has the cell that it had
+pub kept-end : {f : Frame} {words keys words′ keys′ : List ℕ} {σ τ : Store Held} {links links′ : Links} {root count root′ count′ : ℕ} → State f words keys σ links root count
+    → State f words′ keys′ τ links′ root′ count′ → ((n : ℕ) → τ (leaf-place n) ≡ σ (leaf-place n)) → (ref : ℕ) → UsedOrEnd f words keys ref → UsedOrEnd f words′ keys′ ref
+kept-end s h kept ref (inl e) = inl e
+kept-end {f} {words} {keys} {words′} {keys′} s h kept ref (inr u) =
+    inr (u .0, u .1, subst Used (shown-at s (leaf-place (u .0)) ∙ sym (kept (u .0)) ∙ sym (shown-at h (leaf-place (u .0)))) (u .2))

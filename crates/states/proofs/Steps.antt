@@ -42,10 +42,11 @@ use Rattle.whole.specs.Witness.{tagAt, LeafSeen}
 use Rattle.points.specs.There.{InnerHere, HasChild}
 use Rattle.writes.specs.At.{addAt, removeAt, replaceAt, prefixedAt, branchAt, moveAt, dropAt, clearAt}
 use Rattle.writes.specs.Leaf.{leafIn, keyIn, leafOut, keyOut, totalAt}
+use Rattle.writes.proofs.Spots.{frame-eight}
 use Rattle.states.specs.State.{State}
 use Rattle.states.proofs.Children.{find-none, find-some}
 use Rattle.states.proofs.OneCell.{used-pool, state-changed, inner-state, inner-put}
-use Rattle.states.proofs.Standing.{form-eight, ref-some, stands, shown-at, leaf-seen, leaf-stands, used-end, end-used}
+use Rattle.states.proofs.Standing.{ref-some, stands, shown-at, leaf-seen, leaf-stands, kept-end}
 use Rattle.states.proofs.Links.{trailer-state, next-state, previous-state, leaf-state}
 
 module _ {f : Frame} {words keys : List ℕ} {σ : Store Held} {links : Links} {root count : ℕ} (s : State f words keys σ links root count) where
@@ -119,7 +120,7 @@ module _ {f : Frame} {words keys : List ℕ} {σ : Store Held} {links : Links} {
       let row = rowAt (f .form) k rec in
       let none-there : refFor b row ≡ 0 = find-none b row (ap (λ (l : Refs). find-ref l b) (h .refs-are) ∙ g) in
       inner-put s k n (addOf (f .form) k rec b (refOf y)) (prefixAt (f .form) rec) (rowInsert b (refOf y) row) len st (add-ref b y rs) (h .pool)
-      (add-inner (form-eight (s .frame)) (h .own) b (refOf y) (omega (arith, h .size)) low none-there (ref-some (s .frame) y pool)) (h .len-is) (h .stored-is)
+      (add-inner (frame-eight (s .frame)) (h .own) b (refOf y) (omega (arith, h .size)) low none-there (ref-some (s .frame) y pool)) (h .len-is) (h .stored-is)
       (insert-places b (refOf y) row ∙ ap₂ (add-ref b) (place-ref f y pool) (h .refs-are))
 
   pub state-remove : (k n len : ℕ) (st : List ℕ) (rs : Refs) (b : ℕ) (y : Place) → σ (inner-place k n) ≡ inner-cell len st rs → find-ref rs b ≡ some y → 3 ≤ length rs
@@ -131,7 +132,7 @@ module _ {f : Frame} {words keys : List ℕ} {σ : Store Held} {links : Links} {
       let rec = recordAt f words (inner-place k n) in
       let row = rowAt (f .form) k rec in
       inner-put s k n (removeOf (f .form) k rec b) (prefixAt (f .form) rec) (rowRemove b row) len st (cut-ref b rs) (h .pool)
-      (remove-inner (form-eight (s .frame)) (h .own) b (omega (arith, h .size)) (c .0) (c .1)) (h .len-is) (h .stored-is) (remove-places b row ∙ ap (cut-ref b) (h .refs-are))
+      (remove-inner (frame-eight (s .frame)) (h .own) b (omega (arith, h .size)) (c .0) (c .1)) (h .len-is) (h .stored-is) (remove-places b row ∙ ap (cut-ref b) (h .refs-are))
 
   pub state-replace : (k n len : ℕ) (st : List ℕ) (rs : Refs) (b : ℕ) (z y : Place) → σ (inner-place k n) ≡ inner-cell len st rs → find-ref rs b ≡ some z → inPool f y ≡ true
       → State f (replaceAt f (inner-place k n) b (refOf y) words) keys (write σ (inner-place k n) (inner-cell len st (re-ref rs b y))) links root count
@@ -142,7 +143,7 @@ module _ {f : Frame} {words keys : List ℕ} {σ : Store Held} {links : Links} {
       let rec = recordAt f words (inner-place k n) in
       let row = rowAt (f .form) k rec in
       inner-put s k n (replaceOf (f .form) k rec b (refOf y)) (prefixAt (f .form) rec) (rowReplace b (refOf y) row) len st (re-ref rs b y) (h .pool)
-      (replace-inner (form-eight (s .frame)) (h .own) b (refOf y) (c .0) (c .1) (ref-some (s .frame) y pool)) (h .len-is) (h .stored-is)
+      (replace-inner (frame-eight (s .frame)) (h .own) b (refOf y) (c .0) (c .1) (ref-some (s .frame) y pool)) (h .len-is) (h .stored-is)
       (replace-places b (refOf y) row ∙ ap₂ (λ (l : Refs) (x : Place). re-ref l b x) (h .refs-are) (place-ref f y pool))
 
   pub state-prefix : (k n len : ℕ) (st : List ℕ) (rs : Refs) (p : Prefix) → σ (inner-place k n) ≡ inner-cell len st rs → PrefixFits (f .form) p
@@ -151,7 +152,7 @@ module _ {f : Frame} {words keys : List ℕ} {σ : Store Held} {links : Links} {
   state-prefix k n len st rs p e fits =
       let h = stands s k n len st rs e in
       let rec = recordAt f words (inner-place k n) in
-      inner-put s k n (setPrefix (f .form) p rec) p (rowAt (f .form) k rec) (p .full .0) (held p) rs (h .pool) (prefix-inner (form-eight (s .frame)) (h .own) p fits) refl refl (h .refs-are)
+      inner-put s k n (setPrefix (f .form) p rec) p (rowAt (f .form) k rec) (p .full .0) (held p) rs (h .pool) (prefix-inner (frame-eight (s .frame)) (h .own) p fits) refl refl (h .refs-are)
 
   pub state-branch : (k n : ℕ) (p : Prefix) (b c : ℕ) (y z : Place) → inPool f (inner-place k n) ≡ true → PrefixFits (f .form) p → b < 256 → c < 256 → b ≢ c → inPool f y ≡ true → inPool f z ≡ true
       → State f (branchAt f (inner-place k n) p b (refOf y) c (refOf z) words) keys (write σ (inner-place k n) (inner-cell (p .full .0) (held p) (pair-ref b y c z))) links root count
@@ -161,7 +162,7 @@ module _ {f : Frame} {words keys : List ℕ} {σ : Store Held} {links : Links} {
       let row = rowPair b (refOf y) c (refOf z) in
       let r = pair-climbs b (refOf y) c (refOf z) ne bl cl (ref-some (s .frame) y py) (ref-some (s .frame) z pz) in
       inner-put s k n (buildRec (f .form) k p row) p row (p .full .0) (held p) (pair-ref b y c z) pool
-      (build-inner (f .form) (form-eight (s .frame)) k p row (kind .0) (kind .1) fits (omega (arith, r .0)) (omega (arith, r .0, kind-rules k (kind .0) (kind .1) .least)) (r .1)) refl refl
+      (build-inner (f .form) (frame-eight (s .frame)) k p row (kind .0) (kind .1) fits (omega (arith, r .0)) (omega (arith, r .0, kind-rules k (kind .0) (kind .1) .least)) (r .1)) refl refl
       (pair-places b (refOf y) c (refOf z) ne ∙ ap₂ (λ (t u : Place). pair-ref b t c u) (place-ref f y py) (place-ref f z pz))
 
   -- a record written anew at another place, with all its children, and without one
@@ -173,7 +174,7 @@ module _ {f : Frame} {words keys : List ℕ} {σ : Store Held} {links : Links} {
       let kind = inner-kind (s .frame) j m pool in
       let rec = recordAt f words (inner-place k n) in
       inner-put s j m (buildRec (f .form) j (prefixAt (f .form) rec) (directRow (spreadOf (f .form) k rec))) (prefixAt (f .form) rec) (rowAt (f .form) k rec) len st rs pool
-      (move-inner (form-eight (s .frame)) (h .own) j (kind .0) (kind .1) (omega (arith, h .size))) (h .len-is) (h .stored-is) (h .refs-are)
+      (move-inner (frame-eight (s .frame)) (h .own) j (kind .0) (kind .1) (omega (arith, h .size))) (h .len-is) (h .stored-is) (h .refs-are)
 
   pub state-drop : (k n len : ℕ) (st : List ℕ) (rs : Refs) (b : ℕ) (z : Place) (j m : ℕ) → σ (inner-place k n) ≡ inner-cell len st rs → find-ref rs b ≡ some z → 3 ≤ length rs
       → inPool f (inner-place j m) ≡ true → length rs ≤ childrenOf j + 1
@@ -193,7 +194,7 @@ module _ {f : Frame} {words keys : List ℕ} {σ : Store Held} {links : Links} {
       let size = remove-length b row (c .1) in
       inner-put s j m (buildRec (f .form) j p (directRow (set l b 0))) p (rowRemove b row) len st (cut-ref b rs) pool
       (subst (λ (r : Row). Inner (f .form) j (buildRec (f .form) j p r) p (rowRemove b row)) (sym without)
-      (build-inner (f .form) (form-eight (s .frame)) j p (rowRemove b row) (kind .0) (kind .1) (inner-fits (h .own)) (omega (arith, h .size)) (omega (arith, h .size))
+      (build-inner (f .form) (frame-eight (s .frame)) j p (rowRemove b row) (kind .0) (kind .1) (inner-fits (h .own)) (omega (arith, h .size)) (omega (arith, h .size))
       (remove-climbs b 0 row (inner-climbs (h .own))))) (h .len-is) (h .stored-is) (remove-places b row ∙ ap (cut-ref b) (h .refs-are))
 
   pub state-clear : (k n : ℕ) → inPool f (inner-place k n) ≡ true → State f (clearAt f (inner-place k n) words) keys (write σ (inner-place k n) unused) links root count
@@ -223,7 +224,7 @@ module _ {f : Frame} {words keys : List ℕ} {σ : Store Held} {links : Links} {
   state-leaf-in n previous next total tag pool short a b =
       let limit = f .form .limit in
       let s₁ = next-state s previous (leaf-ref n) a in
-      let s₂ = previous-state s₁ next (leaf-ref n) (used-end s₁ next (end-used s next b)) in
+      let s₂ = previous-state s₁ next (leaf-ref n) (kept-end s s₁ (λ m. refl) next b) in
       leaf-state s₂ n (leafWords (length tag) previous next total) (keyBytes limit tag) pool (words-long (length tag) previous next total) (bytes-long limit tag short)
       (leaf-cell tag (record { number = n; total = total })) (words-cell limit tag short previous next total n) (λ u. words-rule limit tag short previous next total) (λ e. absurd (subst Used e tt))
 
@@ -234,7 +235,7 @@ module _ {f : Frame} {words keys : List ℕ} {σ : Store Held} {links : Links} {
       let p = links .prev n in
       let q = links .next n in
       let s₁ = next-state s p q a in
-      let s₂ = previous-state s₁ q p (used-end s₁ q (end-used s q b)) in
+      let s₂ = previous-state s₁ q p (kept-end s s₁ (λ m. refl) q b) in
       leaf-state s₂ n (replicate 6 0) (replicate (f .form .limit) 0) pool refl (length-replicate (f .form .limit) 0) unused refl (λ u. absurd u) (λ e. zeros-all (f .form .limit) 0)
 
   pub state-total : (n total : ℕ) (tag : Tag) (a : Held) → σ (leaf-place n) ≡ leaf-cell tag a

@@ -1,13 +1,11 @@
 -- A record is a part of the words, so what is done to the part is done at the place; and the form of a fitting frame stores eight prefix bytes.
-use Prim.Native.Nat.{ℕ, _+_, _-_, _*_, _%_, _/_, _≤_, _<_}
+use Prim.Native.Nat.{ℕ, _+_, _-_, _*_, _%_, _≤_, _<_}
 use mathlib.Core.Path.{_≡_, refl, sym, ap, ap₂, subst, _∙_}
 use mathlib.Core.List.{List}
-use mathlib.Core.Bool.{Bool, true, false}
+use mathlib.Core.Bool.{true}
 use native.Mathlib.Omega.{arith}
 use lib.ListN.{length, getD}
-use lib.Dec.{eqb}
-use borrow.Author.Tests.{eqb-true, ltb-true}
-use Rattle.lists.specs.Scan.{choose, count, nonzero}
+use Rattle.lists.specs.Scan.{count, nonzero}
 use Rattle.lists.specs.Part.{between, splice}
 use Rattle.prefix.specs.declared.Prefix.{Prefix}
 use Rattle.frames.specs.Kind.{childrenOf}
@@ -15,24 +13,16 @@ use Rattle.frames.specs.Form.{forms, noForm, formKnown, formOf, recordWords}
 use Rattle.frames.specs.Frame.{FrameOf, frameOf, trailerOf}
 use Rattle.frames.specs.Place.{placeAt, inPool, startAt, sizeAt, recordAt, putAt, putKey}
 use Rattle.frames.specs.declared.frame.Frame.{Frame}
-use Rattle.frames.proofs.FormTable.{form-in, form-rules}
-use Rattle.frames.proofs.Frames.{framed, totals}
+use Rattle.frames.proofs.FormTable.{form-in}
+use Rattle.frames.proofs.Frames.{totals}
 use Rattle.frames.proofs.Places.{place-room, record-length, key-length}
 use Rattle.records.specs.Own.{prefixAt}
 use Rattle.records.proofs.Owns.{inner-rule}
 use Rattle.art.specs.Stores.{Place, leaf-place, inner-place}
-use Rattle.pools.proofs.Lowest.{caps-most}
 use Rattle.view.specs.Cells.{kindAt}
 use Rattle.points.specs.There.{InnerHere}
+use Rattle.points.proofs.Here.{place-kind}
 use Rattle.writes.specs.At.{InnerPlace}
-
--- the kind of the place that a reference names
-pub kind-by : (ref : ℕ) → ref % 8 ≡ kindAt (placeAt ref)
-kind-by ref = go (eqb (ref % 8) 5) refl
-  where
-    go : (b : Bool) → eqb (ref % 8) 5 ≡ b → ref % 8 ≡ kindAt (choose b (leaf-place (ref / 8)) (inner-place (ref % 8) (ref / 8)))
-    go true e = eqb-true _ _ e
-    go false e = refl
 
 -- an inner record's place has the size of its kind
 pub inner-size : (f : Frame) (x : Place) → kindAt x ≤ 4 → sizeAt f x ≡ recordWords (f .form) (kindAt x)
@@ -52,11 +42,11 @@ pub record Room (f : Frame) (words : List ℕ) (ref : ℕ) : Type 0 where
 
 pub room-of : {f : Frame} {words keys : List ℕ} → FrameOf f words keys → (ref : ℕ) → InnerPlace f (placeAt ref) → Room f words ref
 room-of {f} {words} {keys} w ref h =
-    let e = kind-by ref in
-    let z : sizeAt f (placeAt ref) ≡ recordWords (f .form) (ref % 8) = inner-size f (placeAt ref) (h .high) ∙ ap (recordWords (f .form)) (sym e) in
+    let e = place-kind ref in
+    let z : sizeAt f (placeAt ref) ≡ recordWords (f .form) (ref % 8) = inner-size f (placeAt ref) (h .high) ∙ ap (recordWords (f .form)) e in
     record {
-      low = subst (λ (k : ℕ). 1 ≤ k) (sym e) (h .low);
-      high = subst (λ (k : ℕ). k ≤ 4) (sym e) (h .high);
+      low = subst (λ (k : ℕ). 1 ≤ k) e (h .low);
+      high = subst (λ (k : ℕ). k ≤ 4) e (h .high);
       size = z;
       ends = subst (λ (s : ℕ). startAt f (placeAt ref) + s + 16 ≤ length words) z (place-room w (placeAt ref) (h .pool));
     }
@@ -79,7 +69,7 @@ module _ (f : Frame) (words : List ℕ) (ref : ℕ) {a e : ℕ} (start : a ≡ s
   -- what holds of the record holds of the part
   pub part-has : (P : ℕ → List ℕ → Type 0) → P (kindAt (placeAt ref)) (recordAt f words (placeAt ref)) → P (ref % 8) (between words a e)
   part-has P h =
-      subst (λ (k : ℕ). P k (between words a e)) (sym (kind-by ref))
+      subst (λ (k : ℕ). P k (between words a e)) (place-kind ref)
       (subst (P (kindAt (placeAt ref))) (sym (part-record f words (placeAt ref) start end)) h)
 
   -- what is made of the part is made of the record
@@ -87,7 +77,7 @@ module _ (f : Frame) (words : List ℕ) (ref : ℕ) {a e : ℕ} (start : a ≡ s
       → splice words a e p ≡ putAt f words (placeAt ref) (g (kindAt (placeAt ref)) (recordAt f words (placeAt ref)))
   part-made g p made =
       part-put f words (placeAt ref) start end p
-      ∙ ap (putAt f words (placeAt ref)) (made ∙ ap₂ g (kind-by ref) (part-record f words (placeAt ref) start end))
+      ∙ ap (putAt f words (placeAt ref)) (made ∙ ap₂ g (sym (place-kind ref)) (part-record f words (placeAt ref) start end))
 
 -- the words of an inner place
 pub record-long : {f : Frame} {words keys : List ℕ} → FrameOf f words keys → (x : Place) → InnerPlace f x → length (recordAt f words x) ≡ recordWords (f .form) (kindAt x)
@@ -113,19 +103,9 @@ pub build-ready : {f : Frame} {words keys : List ℕ} → FrameOf f words keys �
     × (((f .form .prefix ≡ 8) × (length (p .stored) ≡ 8)) × ((length t ≡ 256) × (count nonzero t ≤ childrenOf (ref % 8))))
 build-ready {f} {words} {keys} w ref a e start end h p stored t long few =
     let r = room-of w ref h in
-    (((r .low, r .high), part-has f words ref start end (λ (k : ℕ) (l : List ℕ). length l ≡ recordWords (f .form) k) (record-long w (placeAt ref) h)), ((frame-eight w, stored), (long, subst (λ (k : ℕ). count nonzero t ≤ childrenOf k) (sym (kind-by ref)) few)))
+    (((r .low, r .high), part-has f words ref start end (λ (k : ℕ) (l : List ℕ). length l ≡ recordWords (f .form) k) (record-long w (placeAt ref) h)), ((frame-eight w, stored), (long, subst (λ (k : ℕ). count nonzero t ≤ childrenOf k) (place-kind ref) few)))
 
 -- ── leaves ──
--- the number of a leaf of the pool is small
-pub leaf-small : {f : Frame} {words keys : List ℕ} → FrameOf f words keys → (n : ℕ) → inPool f (leaf-place n) ≡ true → n < 4096
-leaf-small {f} {words} {keys} w n e = omega (arith, ltb-true n (getD (f .caps) 5 0) e, caps-most (framed w) 5 (omega arith))
-
--- and so is a tag's length
-pub limit-small : {f : Frame} {words keys : List ℕ} → FrameOf f words keys → f .form .limit ≤ 128
-unfolding frameOf
-limit-small {f} {words} {keys} w =
-    subst (λ (g : Frame). g .form .limit ≤ 128) (sym (w .read)) (form-rules (getD (trailerOf words) 0 0) (totals words keys (w .fits) .known) .limit)
-
 -- a leaf's key bytes are a part of the key bytes
 module _ {f : Frame} {words keys : List ℕ} (w : FrameOf f words keys) (n : ℕ) (h : inPool f (leaf-place n) ≡ true) {a : ℕ} (start : a ≡ n * f .form .limit) where
   pub key-long : length (between keys a (a + f .form .limit)) ≡ f .form .limit

@@ -7,7 +7,7 @@ use Rattle.frames.proofs.Frames.{totals}
 use Rattle.art.specs.Chain.{leaf-ref}
 use Rattle.pools.specs.Link.{setTrailer}
 use Rattle.writes.specs.Leaf.{leafIn}
-use Rattle.writes.proofs.Spots.{leaf-small}
+use Rattle.points.proofs.Here.{leaf-small}
 use Rattle.insert.specs.Apply.{hung, newWords}
 use borrow.Author.Needs.{needs}
 use Rattle.insert.proofs.apply.apply_new.Statement.{statement}

@@ -10,7 +10,7 @@ use Rattle.frames.specs.Place.{placeAt}
 use Rattle.points.specs.There.{UpThere}
 use Rattle.whole.specs.Witness.{tagAt}
 use Rattle.writes.specs.Above.{linkUp}
-use Rattle.writes.proofs.Spots.{limit-small}
+use Rattle.whole.proofs.Turning.{limit-small}
 use Rattle.writes.proofs.Kept.{branch-kept, linked-kept}
 use Rattle.insert.specs.Apply.{CutOrLeaf}
 use Rattle.insert.proofs.Cuts.{run-stored, tag-short, pool-some, forked-by}

@@ -10,8 +10,10 @@ use Rattle.pools.specs.Link.{setPrevious}
 use Rattle.view.proofs.Keys.{key-fits}
 use Rattle.view.proofs.Leaves.{bytes-long}
 use Rattle.view.proofs.Links.{next-fits, previous-fits}
+use Rattle.whole.proofs.Turning.{limit-small}
+use Rattle.points.proofs.Here.{leaf-small}
 use Rattle.writes.specs.Leaf.{leafIn, keyIn}
-use Rattle.writes.proofs.Spots.{leaf-small, limit-small, fits-words, fits-keys}
+use Rattle.writes.proofs.Spots.{fits-words, fits-keys}
 use borrow.Author.Needs.{needs}
 use Rattle.writes.proofs.leaf_node.leaf_in.Statement.{statement}
 use Rattle.writes.proofs.leaf_node.leaf_in.Tie as tie

@@ -5,7 +5,7 @@ use Rattle.frames.specs.Place.{inPool, startAt}
 use Rattle.frames.proofs.Frames.{framed}
 use Rattle.frames.proofs.Places.{place-leaf, place-room}
 use Rattle.art.specs.Stores.{leaf-place}
-use Rattle.writes.proofs.Spots.{leaf-small}
+use Rattle.points.proofs.Here.{leaf-small}
 use Rattle.writes.proofs.leaf_node.leaf_start.Statement.{statement}
 use Rattle.writes.proofs.leaf_node.leaf_start.Tie as tie
 

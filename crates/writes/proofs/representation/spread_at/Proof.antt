@@ -1,9 +1,10 @@
 -- `representation::spread_at` meets its contract: the record is a part of the words.
-use mathlib.Core.Path.{ap₂, _∙_}
+use mathlib.Core.Path.{sym, ap₂, _∙_}
 use Rattle.frames.specs.Place.{placeAt}
 use Rattle.records.specs.Own.{InnerFits}
 use Rattle.edits.specs.Record.{spreadOf}
-use Rattle.writes.proofs.Spots.{kind-by, part-has, part-record}
+use Rattle.points.proofs.Here.{place-kind}
+use Rattle.writes.proofs.Spots.{part-has, part-record}
 use borrow.Author.Needs.{needs}
 use Rattle.writes.proofs.representation.spread_at.Statement.{statement}
 use Rattle.writes.proofs.representation.spread_at.Tie as tie
@@ -21,7 +22,7 @@ returns c =
     let s = b2 .before .before .before in
     let part = b2 .part-at .ensures in
     c .spread-of .ensures
-    ∙ ap₂ (spreadOf (s .args .f .form)) (kind-by (s .args .reference)) (part-record (s .args .f) (s .args .words .now) (placeAt (s .args .reference)) (part .0) (part .1 .0))
+    ∙ ap₂ (spreadOf (s .args .f .form)) (sym (place-kind (s .args .reference))) (part-record (s .args .f) (s .args .words .now) (placeAt (s .args .reference)) (part .0) (part .1 .0))
 
 pub spread-at-spec : {M : Type 1} → statement M
 spread-at-spec =

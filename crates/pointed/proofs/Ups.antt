@@ -14,7 +14,7 @@ use Rattle.art.specs.Refs.{re-cell}
 use Rattle.art.specs.Chain.{Links}
 use Rattle.art.specs.Points as art
 use Rattle.art.specs.Points.{UpFits, ChildAt, new-root, relink-up}
-use Rattle.art.proofs.Stores.{used-not}
+use Rattle.art.proofs.Stores.{used-not, write-other}
 use Rattle.tree.proofs.Arrivals.{inner-named}
 use Rattle.points.specs.There.{HasChild, UpThere}
 use Rattle.points.specs.declared.insert_point.Up.{Up}
@@ -37,9 +37,13 @@ module _ {A : Type 0} where
   UpSame σ τ art.top = Unit {0}
   UpSame σ τ (art.via k n b) = τ (inner-place k n) ≡ σ (inner-place k n)
 
-  pub up-kept : (σ τ : Store A) (up : art.Up) (y : Place) → UpSame σ τ up → UpFits σ up y → UpFits τ up y
-  up-kept σ τ art.top y e h = tt
-  up-kept σ τ (art.via k n b) y e h = record { len = h .len; rs = h .rs; parent = record { stored = h .parent .stored; shown = e ∙ h .parent .shown }; child = h .child }
+  pub off-same : (σ : Store A) (up : art.Up) (x : Place) (c : Cell A) → UpOff up x → UpSame σ (write σ x c) up
+  off-same σ art.top x c h = tt
+  off-same σ (art.via k n b) x c h = write-other σ x c (inner-place k n) h
+
+  pub same-then : (σ τ ρ : Store A) (up : art.Up) → UpSame σ τ up → UpSame τ ρ up → UpSame σ ρ up
+  same-then σ τ ρ art.top h i = tt
+  same-then σ τ ρ (art.via k n b) h i = i ∙ h
 
   -- it is not at an unused place
   pub up-used : (σ : Store A) (up : art.Up) (y x : Place) → UpFits σ up y → σ x ≡ unused → UpOff up x
@@ -51,6 +55,12 @@ module _ {A : Type 0} where
   up-off σ apart art.top y h = tt
   up-off σ apart (art.via k n b) y h = apart k n b y h
 
+  -- nor at its child's child
+  pub up-off-kid : (σ : Store A) → ((k n b j m d : ℕ) (y : Place) → ChildAt σ k n b (inner-place j m) → ChildAt σ j m d y → inner-place k n ≢ y) → (up : art.Up) (j m d : ℕ) (y : Place)
+      → UpFits σ up (inner-place j m) → ChildAt σ j m d y → UpOff up y
+  up-off-kid σ apart art.top j m d y h c = tt
+  up-off-kid σ apart (art.via k n b) j m d y h c = apart k n b j m d y h c
+
   -- its cell with the child at another place
   abbrev pub up-edits : Store A → art.Up → Place → Edits A
   up-edits σ art.top new = []
@@ -59,10 +69,6 @@ module _ {A : Type 0} where
   pub relink-is : (σ : Store A) (up : art.Up) (old new : Place) → old ≢ new → relink-up σ up old new ≡ up-edits σ up new
   relink-is σ art.top old new ne = refl
   relink-is σ (art.via k n b) old new ne = if-neg (place-dec old new) ne [] (up-edits σ (art.via k n b) new)
-
-  pub up-edits-same : (σ τ : Store A) (up : art.Up) (new : Place) → UpSame σ τ up → up-edits τ up new ≡ up-edits σ up new
-  up-edits-same σ τ art.top new e = refl
-  up-edits-same σ τ (art.via k n b) new e = ap (λ (c : Cell A). (inner-place k n, re-cell c b new) ∷ []) e
 
 -- the reference to the root afterwards
 abbrev pub up-root : art.Up → ℕ → ℕ → ℕ
@@ -74,22 +80,23 @@ up-rooted art.top ref old new e = refl
 up-rooted (art.via k n b) ref old new e = e
 
 -- ── on a block ──
-module _ {f : Frame} {words keys : List ℕ} {σ : Store Held} {links : Links} {root count : ℕ} (s : State f words keys σ links root count) where
+module _ {f : Frame} {words keys : List ℕ} {τ : Store Held} {links : Links} {root count : ℕ} (s : State f words keys τ links root count) where
   -- a reference to an inner record in use names its place
-  pub inner-here : (ref : ℕ) → Used (σ (inner-place (ref % 8) (ref / 8))) → placeAt ref ≡ inner-place (ref % 8) (ref / 8)
+  pub inner-here : (ref : ℕ) → Used (τ (inner-place (ref % 8) (ref / 8))) → placeAt ref ≡ inner-place (ref % 8) (ref / 8)
   inner-here ref u = inner-named ref (λ e. omega (arith, inner-kind (s .frame) (ref % 8) (ref / 8) (state-pool s (inner-place (ref % 8) (ref / 8)) u) .1))
 
-  pub up-there : (up : Up) (y : Place) → UpFits σ (upTold up) y → UpThere f words up
-  up-there Top y h = tt
-  up-there (Via above byte) y h =
-      subst (λ (x : Place). HasChild f words x byte) (sym (inner-here above (subst Used (sym (h .parent .shown)) tt)))
-      (state-child s (above % 8) (above / 8) (h .len) (h .parent .stored) (h .rs) byte y (h .parent .shown) (h .child))
+  -- the record above fits the store before the writes, which have left it as it was
+  pub up-there : (σ : Store Held) (up : Up) (y : Place) → UpSame σ τ (upTold up) → UpFits σ (upTold up) y → UpThere f words up
+  up-there σ Top y e h = tt
+  up-there σ (Via above byte) y e h =
+      subst (λ (x : Place). HasChild f words x byte) (sym (inner-here above (subst Used (sym (e ∙ h .parent .shown)) tt)))
+      (state-child s (above % 8) (above / 8) (h .len) (h .parent .stored) (h .rs) byte y (e ∙ h .parent .shown) (h .child))
 
-  pub up-linked : (up : Up) (y new : Place) → UpFits σ (upTold up) y → inPool f new ≡ true
-      → State f (linkUp f up (refOf new) words) keys (apply σ (up-edits σ (upTold up) new)) links (up-root (upTold up) root (refOf new)) count
-  up-linked Top y new h pool = state-root s (refOf new)
-  up-linked (Via above byte) y new h pool =
+  pub up-linked : (σ : Store Held) (up : Up) (y new : Place) → UpSame σ τ (upTold up) → UpFits σ (upTold up) y → inPool f new ≡ true
+      → State f (linkUp f up (refOf new) words) keys (apply τ (up-edits σ (upTold up) new)) links (up-root (upTold up) root (refOf new)) count
+  up-linked σ Top y new e h pool = state-root s (refOf new)
+  up-linked σ (Via above byte) y new e h pool =
       let x : Place = inner-place (above % 8) (above / 8) in
-      subst (λ (p : Place). State f (replaceAt f p byte (refOf new) words) keys (write σ x (re-cell (σ x) byte new)) links root count) (sym (inner-here above (subst Used (sym (h .parent .shown)) tt)))
-      (subst (λ (c : Cell Held). State f (replaceAt f x byte (refOf new) words) keys (write σ x c) links root count) (ap (λ (c : Cell Held). re-cell c byte new) (sym (h .parent .shown)))
-      (state-replace s (above % 8) (above / 8) (h .len) (h .parent .stored) (h .rs) byte y new (h .parent .shown) (h .child) pool))
+      subst (λ (p : Place). State f (replaceAt f p byte (refOf new) words) keys (write τ x (re-cell (σ x) byte new)) links root count) (sym (inner-here above (subst Used (sym (e ∙ h .parent .shown)) tt)))
+      (subst (λ (c : Cell Held). State f (replaceAt f x byte (refOf new) words) keys (write τ x c) links root count) (ap (λ (c : Cell Held). re-cell c byte new) (sym (h .parent .shown)))
+      (state-replace s (above % 8) (above / 8) (h .len) (h .parent .stored) (h .rs) byte y new (e ∙ h .parent .shown) (h .child) pool))
