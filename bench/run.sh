@@ -16,8 +16,15 @@ missing() {
     exit 2
 }
 
+# All tools are looked for before anything is built, so that what is missing is told from what is wrong.
+find_tools() {
+    cargo --version > /dev/null 2>&1 || missing "no cargo that runs, to build the crate with"
+    python3 --version > /dev/null 2>&1 || missing "no python3, to write the lists with"
+    echo 'int main(void) { return 0; }' > "$out/empty.c"
+    cc "$out/empty.c" -o "$out/empty" 2> /dev/null || missing "no cc that compiles a C program, which cargo links with too"
+}
+
 build_crate() {
-    command -v cargo > /dev/null || missing "no cargo, to build the crate with"
     (cd blart && sha256sum --check --quiet supplied.sha256) || missing "a supplied file of the crate was changed"
     CARGO_HOME=$out/cargo-home cargo build --quiet --offline --manifest-path blart/Cargo.toml --target-dir "$out/cargo"
     crate=$out/cargo/debug/driver
@@ -39,7 +46,6 @@ build_port() {
         compiler="x86_64-linux-gnu-gcc -O2 -static" emulator=${QEMU:-qemu-x86_64}
         command -v "$emulator" > /dev/null || missing "this is no x86-64 machine, and there is no $emulator to run the port in (QEMU=path names one)"
     fi
-    echo 'int main(void) { return 0; }' > "$out/empty.c"
     $compiler "$out/empty.c" -o "$out/empty" 2> /dev/null || missing "no ${compiler%% *} that compiles a C program, for port.c"
     $compiler -std=c11 -Wall -Wextra -I../include port.c "$library" -o "$out/port"
 }
@@ -91,6 +97,7 @@ compare_known() {
     diff differences.txt "$out/known.txt" || known=1
 }
 
+find_tools
 build_crate
 build_library
 build_port

@@ -16,6 +16,9 @@
  *   19 c1 + 43 c2 + 315 c3 + 267 c4 + 6 c5 + 16 words, and 64 c5 key bytes, exactly.
  *
  * A tag is any string of bytes, up to 64 of them. No held tag begins another.
+ *
+ * Check, first-at-or-after, insert and delete look at the whole directory, and use up to 700 bytes of stack for each child that is passed on the way down to
+ * a leaf: 183 KB were measured for 256 one-byte tags; some 3 MB are the most that 4,096 tags can ask for.
  */
 #ifndef DIRECTORY_H
 #define DIRECTORY_H
