@@ -28,7 +28,7 @@ use Rattle.tree.specs.Arrive.{arrivalAt, arrived, onPath, InnerThere}
 use Rattle.whole.specs.Arrive.{There, innerRec}
 use Rattle.whole.specs.Marks.{fresh, reached}
 use Rattle.whole.specs.Witness.{LeafSeen, WitnessSeen, tagAt, goesOn, storedAgrees}
-use Rattle.whole.specs.Visit.{Way, way, leafVisit, turnOf, turnAt, doneOf, firstOf, rowEnd, childEnd, onward, recordEnd, rowBy, rowFrom, rowOf, afterTurn, recordWith, recordBy, rowWay, Sees, Counted}
+use Rattle.whole.specs.Visit.{Way, way, leafVisit, turnOf, turnAt, doneOf, firstOf, rowEnd, childEnd, onward, recordEnd, rowBy, rowFrom, rowOf, afterTurn, recordWith, recordBy, rowWay, Sees, Counted, RowReady}
 use Rattle.tree.specs.declared.arrive.Arrival.{Arrival}
 use Rattle.tree.specs.declared.arrive.Arrival.the-variants.{Leaf, Inner, Broken}
 use Rattle.whole.specs.declared.well_formed.Seen.{Seen}
@@ -110,6 +110,11 @@ pub from-all : (lo b : ℕ) (cs : List (ℕ × ℕ)) → Climbs lo cs → b ≤ 
 from-all lo b [] h l = refl
 from-all lo b (c ∷ cs) h l = ap (λ (t : Bool). pick t (c ∷ cs) (rowFrom b cs)) (le-leb b (c .0) (omega (arith, h .0 .low)))
 
+-- no child has a byte after 255
+none-from : (lo b : ℕ) (cs : List (ℕ × ℕ)) → Climbs lo cs → 255 < b → rowFrom b cs ≡ []
+none-from lo b [] h l = refl
+none-from lo b (c ∷ cs) h l = ap (λ (t : Bool). pick t (c ∷ cs) (rowFrom b cs)) (lt-leb b (c .0) (omega (arith, h .0 .byte))) ∙ none-from (suc (c .0)) b cs (h .1) l
+
 -- what stands first from a byte on, and the rest
 pub record Starts (b : ℕ) (cs : List (ℕ × ℕ)) (x r : ℕ) : Type 0 where
   pub low : b ≤ x
@@ -162,6 +167,9 @@ module _ (f : Frame) (words : List ℕ) (row : Row) (h : InnerThere (f .form) wo
 
   pub row-ends : entryFrom b (rowOf f words row) ≡ Nothing → rowFrom b (rowOf f words row) ≡ []
   row-ends e = subst (StartsAt b (rowOf f words row)) e (starts-at 0 b (rowOf f words row) (row-rule (h .fits) .climbs))
+
+  pub row-past : 255 < b → rowFrom b (rowOf f words row) ≡ []
+  row-past l = none-from 0 b (rowOf f words row) (row-rule (h .fits) .climbs) l
 
   pub row-whole : b ≡ 0 → rowFrom b (rowOf f words row) ≡ rowOf f words row
   row-whole e = from-all 0 b (rowOf f words row) (row-rule (h .fits) .climbs) (omega arith)
@@ -355,42 +363,68 @@ module _ {f : Frame} {words keys : List ℕ} (fr : FrameOf f words keys) (left r
             re ∙ ap (λ (x : Way). x .marks) at ∙ sym (ap (λ (x : Way). x .marks) q),
           )
 
-module _ {f : Frame} {words keys : List ℕ} (fr : FrameOf f words keys) (left : ℕ) (row : Row) (b w : ℕ) (m : List ℕ) (s : Seen) (there : InnerThere (f .form) words (row .kind) (row .start)) {c : Entry}
-    (ce : c ≡ entryFrom b (rowOf f words row)) where
-  pub row-stops : {r : Visit} → c ≡ Nothing → r ≡ rowEnd w s → (r ≡ rowWay f words keys left row b w m s .visit) × (m ≡ rowWay f words keys left row b w m s .marks)
-  row-stops {r} e h =
-      let q = row-end f words keys left row b w m s (row-ends f words row there b (sym ce ∙ e)) in
+-- ---- the turns of a row's loop
+-- with the marks and leaves so far, the row from a byte on answers what the whole row does with those at the start
+pub record Going (f : Frame) (words keys : List ℕ) (left : ℕ) (row : Row) (m₀ : List ℕ) (s₀ : Seen) (b w : ℕ) (m : List ℕ) (s : Seen) : Type 0 where
+  pub ready : RowReady f words keys left row b w s m
+  pub same-answer : rowWay f words keys left row b w m s ≡ rowWay f words keys left row 0 0 m₀ s₀
+  pub same-length : length m ≡ length m₀
+
+module _ {f : Frame} {words keys : List ℕ} {left : ℕ} {row : Row} {m₀ : List ℕ} {s₀ : Seen} {b w : ℕ} {m : List ℕ} {s : Seen} (g : Going f words keys left row m₀ s₀ b w m s) where
+  abbrev Answers : Visit → List ℕ → Type 0
+  Answers r mr = (r ≡ rowWay f words keys left row 0 0 m₀ s₀ .visit) × (mr ≡ rowWay f words keys left row 0 0 m₀ s₀ .marks)
+
+  ends-here : {r : Visit} → rowFrom b (rowOf f words row) ≡ [] → r ≡ rowEnd w s → Answers r m
+  ends-here e h =
+      let q = sym (g .same-answer) ∙ row-end f words keys left row b w m s e in
       (h ∙ sym (ap (λ (x : Way). x .visit) q), sym (ap (λ (x : Way). x .marks) q))
 
-  module _ {x r : ℕ} (e : c ≡ Child x r) where
-    pub child-starts : Starts b (rowOf f words row) x r
-    child-starts = row-starts f words row there b x r (sym ce ∙ e)
+  pub row-over : {r : Visit} → 255 < b → r ≡ rowEnd w s → Answers r m
+  row-over l h = ends-here (row-past f words row (g .ready .there) b l) h
 
-    module _ {v : Visit} {m′ : List ℕ} (ve : v ≡ recordBy f words keys left r (row .depth + 1) m s .visit) (me : m′ ≡ recordBy f words keys left r (row .depth + 1) m s .marks) where
-      pub child-sees : s .count ≤ count nonzero m → Sees f words keys v × Counted m′ v
-      child-sees h =
-          let k = record-kept f words keys left r (row .depth + 1) m s h in
-          (subst (Sees f words keys) (sym ve) (k .0), subst (λ (l : List ℕ). Counted l v) (sym me) (subst (Counted (recordBy f words keys left r (row .depth + 1) m s .marks)) (sym ve) (k .1)))
+  module _ {c : Entry} (ce : c ≡ entryFrom b (rowOf f words row)) where
+    pub row-stops : {r : Visit} → c ≡ Nothing → r ≡ rowEnd w s → Answers r m
+    row-stops e h = ends-here (row-ends f words row (g .ready .there) b (sym ce ∙ e)) h
 
-      module _ {y : Visit} (ye : y ≡ childEnd f words keys (row .depth) x w v) where
-        ended : childEnd f words keys (row .depth) x w (recordBy f words keys left r (row .depth + 1) m s .visit) ≡ y
-        ended = ap (childEnd f words keys (row .depth) x w) (sym ve) ∙ sym ye
+    module _ {x r : ℕ} (e : c ≡ Child x r) where
+      pub child-starts : Starts b (rowOf f words row) x r
+      child-starts = row-starts f words row (g .ready .there) b x r (sym ce ∙ e)
 
-        pub row-breaks : y ≡ Ill → (Ill ≡ rowWay f words keys left row b w m s .visit) × (m′ ≡ rowWay f words keys left row b w m s .marks)
-        row-breaks i =
-            let q = row-ill f words keys left row b w m s x r (child-starts .parts) (ended ∙ i) in
-            (sym (ap (λ (x : Way). x .visit) q), me ∙ sym (ap (λ (x : Way). x .marks) q))
+      module _ {v : Visit} {m′ : List ℕ} (ve : v ≡ recordBy f words keys left r (row .depth + 1) m s .visit) (me : m′ ≡ recordBy f words keys left r (row .depth + 1) m s .marks) where
+        child-kept-so : Kept f words keys m′ v
+        child-kept-so =
+            let k = record-kept f words keys left r (row .depth + 1) m s (g .ready .counted) in
+            (subst (Sees f words keys) (sym ve) (k .0), subst (λ (l : List ℕ). Counted l v) (sym me) (subst (Counted (recordBy f words keys left r (row .depth + 1) m s .marks)) (sym ve) (k .1)))
 
-        module _ {u : ℕ} {z : Seen} (i : y ≡ Well u z) where
-          pub next-kept : WitnessSeen f words keys w → s .count ≤ count nonzero m → WitnessSeen f words keys u × (z .count ≤ count nonzero m′)
-          next-kept h n =
-              let k = child-kept f words keys (row .depth) x w m′ v h (child-sees n) in
+        pub child-sees : Sees f words keys v
+        child-sees = child-kept-so .0
+
+        module _ {y : Visit} (ye : y ≡ childEnd f words keys (row .depth) x w v) where
+          ended : childEnd f words keys (row .depth) x w (recordBy f words keys left r (row .depth + 1) m s .visit) ≡ y
+          ended = ap (childEnd f words keys (row .depth) x w) (sym ve) ∙ sym ye
+
+          pub row-breaks : y ≡ Ill → Answers Ill m′
+          row-breaks i =
+              let q = sym (g .same-answer) ∙ row-ill f words keys left row b w m s x r (child-starts .parts) (ended ∙ i) in
+              (sym (ap (λ (x : Way). x .visit) q), me ∙ sym (ap (λ (x : Way). x .marks) q))
+
+          pub row-goes : {u : ℕ} {z : Seen} → y ≡ Well u z → length m′ ≡ length m → Going f words keys left row m₀ s₀ (x + 1) u m′ z
+          row-goes {u} {z} i n =
+              let k = child-kept f words keys (row .depth) x w m′ v (g .ready .witness) child-kept-so in
               let j : Kept f words keys m′ (Well u z) = subst (Kept f words keys m′) (sym ye ∙ i) k in
-              (leaf-witness f words keys (j .0), j .1)
-
-          pub row-goes : {p : Visit} {mp : List ℕ} → p ≡ rowWay f words keys left row (x + 1) u m′ z .visit → mp ≡ rowWay f words keys left row (x + 1) u m′ z .marks
-              → (p ≡ rowWay f words keys left row b w m s .visit) × (mp ≡ rowWay f words keys left row b w m s .marks)
-          row-goes pe pm =
-              let q = row-well f words keys left row b w m s x r (child-starts .parts) u z (ended ∙ i) in
-              let at : rowWay f words keys left row (x + 1) u m′ z ≡ rowWay f words keys left row b w m s = ap (λ (l : List ℕ). rowWay f words keys left row (x + 1) u l z) me ∙ sym q in
-              (pe ∙ ap (λ (x : Way). x .visit) at, pm ∙ ap (λ (x : Way). x .marks) at)
+              record {
+                ready =
+                    record {
+                      frame = g .ready .frame;
+                      there = g .ready .there;
+                      within = omega (arith, child-starts .byte);
+                      witness = leaf-witness f words keys (j .0);
+                      counted = j .1;
+                      shallow = g .ready .shallow;
+                    };
+                same-answer =
+                    ap (λ (l : List ℕ). rowWay f words keys left row (x + 1) u l z) me
+                    ∙ sym (row-well f words keys left row b w m s x r (child-starts .parts) u z (ended ∙ i))
+                    ∙ g .same-answer;
+                same-length = n ∙ g .same-length;
+              }

@@ -187,7 +187,7 @@ pub fn check_record(
     let Turn::Branch(row) = t else {
         return turn_done(t);
     };
-    let v = check_row(marks, words, keys, f, left - 1, row, 0, 0, s);
+    let v = check_row(marks, words, keys, f, left - 1, row, s);
     record_end(words, keys, f, row, depth, v)
 }
 
@@ -198,21 +198,27 @@ fn check_row(
     f: Frame,
     left: u32,
     row: Row,
-    byte: usize,
-    w: u32,
     s: Seen,
 ) -> Visit
-    requires { ⌜ RowReady f (now words) (now keys) left row byte w s (now marks) ⌝ }
-    ensures { λ r. ⌜ (r ≡ rowWay f (now (words .entry)) (now (keys .entry)) left row byte w (now (marks .entry)) s .visit) × (now (marks .exit) ≡ rowWay f (now (words .entry)) (now (keys .entry)) left row byte w (now (marks .entry)) s .marks) ⌝ }
+    requires { ⌜ RowReady f (now words) (now keys) left row 0 0 s (now marks) ⌝ }
+    ensures { λ r. ⌜ (r ≡ rowWay f (now (words .entry)) (now (keys .entry)) left row 0 0 (now (marks .entry)) s .visit) × (now (marks .exit) ≡ rowWay f (now (words .entry)) (now (keys .entry)) left row 0 0 (now (marks .entry)) s .marks) ⌝ }
 {
-    let c = row_child(words, f.form, row, byte);
-    let Entry::Child(b, r) = c else {
-        return row_end(w, s);
-    };
-    let v = check_record(marks, words, keys, f, left, r, row.depth + 1, s);
-    let x = child_end(words, keys, f, row.depth, b, w, v);
-    let Visit::Well(y, z) = x else {
-        return Visit::Ill;
-    };
-    check_row(marks, words, keys, f, left, row, b as usize + 1, y, z)
+    let mut byte: usize = 0;
+    let mut w: u32 = 0;
+    let mut seen = s;
+    while byte <= 255 {
+        let c = row_child(words, f.form, row, byte);
+        let Entry::Child(b, r) = c else {
+            return row_end(w, seen);
+        };
+        let v = check_record(marks, words, keys, f, left, r, row.depth + 1, seen);
+        let x = child_end(words, keys, f, row.depth, b, w, v);
+        let Visit::Well(y, z) = x else {
+            return Visit::Ill;
+        };
+        byte = b as usize + 1;
+        w = y;
+        seen = z;
+    }
+    row_end(w, seen)
 }

@@ -1,8 +1,8 @@
--- The cycle of `check_record` and `check_row`: each return is a case of the definition that goes by turns. Remaining depth and remaining bytes fall: the measures are 258 for each
--- inner record left on the path, and for a row one for each byte left.
-use mathlib.Core.Path.{_∙_}
+-- The cycle of `check_record` and `check_row`: each return is a case of the definition that goes by turns, and at each turn of a row's loop the row from here answers what the whole
+-- row does. The records left on the path fall: the measures are 2 for each, and one more for a row.
+use mathlib.Core.Path.{refl, _∙_}
 use native.Mathlib.Omega.{arith}
-use Rattle.whole.proofs.Turning.{record-stops, branch-here, record-counted, no-witness, row-sees, record-closes, row-stops, child-starts, child-sees, row-breaks, next-kept, row-goes}
+use Rattle.whole.proofs.Turning.{record-stops, branch-here, record-counted, no-witness, row-sees, record-closes, Going, row-over, row-stops, child-starts, child-sees, row-breaks, row-goes}
 use borrow.Author.Needs.{needs}
 use Prim.Native.Nat.{ℕ, _+_, _*_, _-_, _<_}
 use borrow.Fn.Kinds.{In}
@@ -23,10 +23,10 @@ use Rattle.whole.proofs.well_formed.+check_record+check_row.{statement}
 use Rattle.whole.proofs.well_formed.+check_record+check_row.Tie.{close}
 
 abbrev μ-check-record : Measures 3 check-record-kinds.ps ℕ
-μ-check-record κs a = a .1 .1 .1 .1 .0 * 258
+μ-check-record κs a = a .1 .1 .1 .1 .0 * 2
 
 abbrev μ-check-row : Measures 3 check-row-kinds.ps ℕ
-μ-check-row κs a = a .1 .1 .1 .1 .0 * 258 + 257 - a .1 .1 .1 .1 .1 .1 .0
+μ-check-row κs a = a .1 .1 .1 .1 .0 * 2 + 1
 
 abbrev check-record-at : ℕ → In 3 check-record-kinds.ps
 check-record-at t =
@@ -47,7 +47,6 @@ abbrev check-row-below : ℕ → In 3 check-row-kinds.ps
 check-row-below t =
     and 3 check-row-kinds.ps (falls 3 check-row-kinds.ps _<_ μ-check-row t) check-row.Pre
 
--- src/well_formed.rt:185:9
 check-record-turn-at-requires : (t : ℕ) → check-record-lts.Need-turn-at-requires (
   turn-at-reads.Asked,
   turn-at-reads.Learnt,
@@ -60,7 +59,6 @@ check-record-turn-at-requires : (t : ℕ) → check-record-lts.Need-turn-at-requ
 ) (check-record-at t) check-record.Post
 check-record-turn-at-requires t c κs = c .before .before .before .before .pre .1
 
--- src/well_formed.rt:186:22
 check-record-enum-known-t : (t : ℕ) → check-record-lts.Need-enum-known-t (
   turn-at-reads.Asked,
   turn-at-reads.Learnt,
@@ -73,7 +71,6 @@ check-record-enum-known-t : (t : ℕ) → check-record-lts.Need-enum-known-t (
 ) (check-record-at t) check-record.Post
 check-record-enum-known-t t c = search needs
 
--- src/well_formed.rt:187:9
 check-record-enum-told : (t : ℕ) → check-record-lts.Need-enum-told (
   turn-at-reads.Asked,
   turn-at-reads.Learnt,
@@ -86,7 +83,6 @@ check-record-enum-told : (t : ℕ) → check-record-lts.Need-enum-told (
 ) (check-record-at t) check-record.Post
 check-record-enum-told t c = search needs
 
--- src/well_formed.rt:187:9
 check-record-turn-done-requires : (t : ℕ) → check-record-lts.Need-turn-done-requires (
   turn-at-reads.Asked,
   turn-at-reads.Learnt,
@@ -99,7 +95,6 @@ check-record-turn-done-requires : (t : ℕ) → check-record-lts.Need-turn-done-
 ) (check-record-at t) check-record.Post
 check-record-turn-done-requires t c κs = search needs
 
--- src/well_formed.rt:187:9
 check-record-same-length : (t : ℕ) → check-record-lts.Need-same-length (
   turn-at-reads.Asked,
   turn-at-reads.Learnt,
@@ -112,7 +107,6 @@ check-record-same-length : (t : ℕ) → check-record-lts.Need-same-length (
 ) (check-record-at t) check-record.Post
 check-record-same-length t c = c .before .before .before .before .before .turn-at .kept .0
 
--- src/well_formed.rt:187:9
 check-record-returns : (t : ℕ) → check-record-lts.Need-returns (
   turn-at-reads.Asked,
   turn-at-reads.Learnt,
@@ -129,7 +123,6 @@ check-record-returns t c =
     let u = c .before .before .before .before .before .turn-at .ensures in
     record-stops (q .frame) (a .left) (a .reference) (a .depth) (a .marks .now) (a .s) (u .0) (u .1) (c .before .enum-told .given .1) (c .turn-done .ensures)
 
--- src/well_formed.rt:189:46
 check-record-sub-check-row : (t : ℕ) → check-record-lts.Need-sub-check-row (
   turn-at-reads.Asked,
   turn-at-reads.Learnt,
@@ -147,7 +140,6 @@ check-record-sub-check-row t c =
     let h = branch-here (q .frame) (a .left) (a .reference) (a .depth) (a .marks .now) (a .s) (u .0) (u .1) (c .before .before .t .given .1) in
     omega (arith, h .some)
 
--- src/well_formed.rt:189:9
 check-record-check-row-requires : (t : ℕ) → check-record-lts.Need-check-row-requires (
   turn-at-reads.Asked,
   turn-at-reads.Learnt,
@@ -174,7 +166,6 @@ check-record-check-row-requires t c κs =
       },
     )
 
--- src/well_formed.rt:190:5
 check-record-record-end-requires : (t : ℕ) → check-record-lts.Need-record-end-requires (
   turn-at-reads.Asked,
   turn-at-reads.Learnt,
@@ -193,7 +184,6 @@ check-record-record-end-requires t c κs =
     let v = c .before .before .check-row .ensures in
     (q .frame, (h .there, row-sees (q .frame) (a .left) (a .reference) (a .depth) (a .marks .now) (a .s) (u .0) (u .1) (c .before .before .before .before .before .t .given .1) (v .0) (v .1) (q .counted)))
 
--- src/well_formed.rt:172:1
 check-record-same-length-2 : (t : ℕ) → check-record-lts.Need-same-length-2 (
   turn-at-reads.Asked,
   turn-at-reads.Learnt,
@@ -206,7 +196,6 @@ check-record-same-length-2 : (t : ℕ) → check-record-lts.Need-same-length-2 (
 ) (check-record-at t) check-record.Post
 check-record-same-length-2 t c = c .before .before .before .check-row .kept .0 ∙ c .before .before .before .before .before .before .before .before .before .before .turn-at .kept .0
 
--- src/well_formed.rt:172:1
 check-record-returns-2 : (t : ℕ) → check-record-lts.Need-returns-2 (
   turn-at-reads.Asked,
   turn-at-reads.Learnt,
@@ -224,7 +213,24 @@ check-record-returns-2 t c =
     let v = c .before .before .before .check-row .ensures in
     record-closes (q .frame) (a .left) (a .reference) (a .depth) (a .marks .now) (a .s) (u .0) (u .1) (c .before .before .before .before .before .before .t .given .1) (v .0) (v .1) (c .record-end .ensures)
 
--- src/well_formed.rt:207:9
+abbrev Inv-loop : check-row-lts.InvT-loop
+Inv-loop marks₀ words keys f left row byte₀ w₀ seen₀ marks byte w seen = Going f words keys left row marks₀ seen₀ byte w marks seen
+
+abbrev μ-loop : check-row-lts.MeasureT-loop
+μ-loop marks₀ words keys f left row byte₀ w₀ seen₀ marks byte w seen = 257 - byte
+
+check-row-loop-holds : (t : ℕ) → check-row-lts.Need-loop-holds (
+  row-child-reads.Asked,
+  row-child-reads.Learnt,
+  row-end-reads.Asked,
+  row-end-reads.Learnt,
+  check-record-below t,
+  check-record.Post,
+  child-end-reads.Asked,
+  child-end-reads.Learnt,
+) (check-row-at t) check-row.Post Inv-loop μ-loop
+check-row-loop-holds t c = record { ready = c .before .before .before .pre .1; same-answer = refl; same-length = refl }
+
 check-row-row-child-requires : (t : ℕ) → check-row-lts.Need-row-child-requires (
   row-child-reads.Asked,
   row-child-reads.Learnt,
@@ -234,12 +240,9 @@ check-row-row-child-requires : (t : ℕ) → check-row-lts.Need-row-child-requir
   check-record.Post,
   child-end-reads.Asked,
   child-end-reads.Learnt,
-  check-row-below t,
-  check-row.Post,
-) (check-row-at t) check-row.Post
-check-row-row-child-requires t c κs = let q = c .before .before .before .pre .1 in (q .there, q .within)
+) (check-row-at t) check-row.Post Inv-loop μ-loop
+check-row-row-child-requires t c κs = let q = c .before .loop .inv .ready in (q .there, q .within)
 
--- src/well_formed.rt:208:22
 check-row-enum-known-c : (t : ℕ) → check-row-lts.Need-enum-known-c (
   row-child-reads.Asked,
   row-child-reads.Learnt,
@@ -249,12 +252,9 @@ check-row-enum-known-c : (t : ℕ) → check-row-lts.Need-enum-known-c (
   check-record.Post,
   child-end-reads.Asked,
   child-end-reads.Learnt,
-  check-row-below t,
-  check-row.Post,
-) (check-row-at t) check-row.Post
+) (check-row-at t) check-row.Post Inv-loop μ-loop
 check-row-enum-known-c t c = search needs
 
--- src/well_formed.rt:209:9
 check-row-enum-told : (t : ℕ) → check-row-lts.Need-enum-told (
   row-child-reads.Asked,
   row-child-reads.Learnt,
@@ -264,12 +264,9 @@ check-row-enum-told : (t : ℕ) → check-row-lts.Need-enum-told (
   check-record.Post,
   child-end-reads.Asked,
   child-end-reads.Learnt,
-  check-row-below t,
-  check-row.Post,
-) (check-row-at t) check-row.Post
+) (check-row-at t) check-row.Post Inv-loop μ-loop
 check-row-enum-told t c = search needs
 
--- src/well_formed.rt:209:9
 check-row-row-end-requires : (t : ℕ) → check-row-lts.Need-row-end-requires (
   row-child-reads.Asked,
   row-child-reads.Learnt,
@@ -279,111 +276,9 @@ check-row-row-end-requires : (t : ℕ) → check-row-lts.Need-row-end-requires (
   check-record.Post,
   child-end-reads.Asked,
   child-end-reads.Learnt,
-  check-row-below t,
-  check-row.Post,
-) (check-row-at t) check-row.Post
+) (check-row-at t) check-row.Post Inv-loop μ-loop
 check-row-row-end-requires t c κs = search needs
 
--- src/well_formed.rt:209:9
-check-row-returns : (t : ℕ) → check-row-lts.Need-returns (
-  row-child-reads.Asked,
-  row-child-reads.Learnt,
-  row-end-reads.Asked,
-  row-end-reads.Learnt,
-  check-record-below t,
-  check-record.Post,
-  child-end-reads.Asked,
-  child-end-reads.Learnt,
-  check-row-below t,
-  check-row.Post,
-) (check-row-at t) check-row.Post
-check-row-returns t c =
-    let a = c .before .before .before .before .before .before .before .args in
-    let q = c .before .before .before .before .before .before .before .pre .1 in
-    row-stops (q .frame) (a .left) (a .row) (a .byte) (a .w) (a .marks .now) (a .s) (q .there) (c .before .before .before .row-child .ensures) (c .before .enum-told .given .1) (c .row-end .ensures)
-
--- src/well_formed.rt:211:58
-check-row-add-check-record : (t : ℕ) → check-row-lts.Need-add-check-record (
-  row-child-reads.Asked,
-  row-child-reads.Learnt,
-  row-end-reads.Asked,
-  row-end-reads.Learnt,
-  check-record-below t,
-  check-record.Post,
-  child-end-reads.Asked,
-  child-end-reads.Learnt,
-  check-row-below t,
-  check-row.Post,
-) (check-row-at t) check-row.Post
-check-row-add-check-record t c = omega (arith, c .before .before .before .before .before .before .before .before .before .pre .1 .shallow)
-
--- src/well_formed.rt:211:9
-check-row-check-record-requires : (t : ℕ) → check-row-lts.Need-check-record-requires (
-  row-child-reads.Asked,
-  row-child-reads.Learnt,
-  row-end-reads.Asked,
-  row-end-reads.Learnt,
-  check-record-below t,
-  check-record.Post,
-  child-end-reads.Asked,
-  child-end-reads.Learnt,
-  check-row-below t,
-  check-row.Post,
-) (check-row-at t) check-row.Post
-check-row-check-record-requires t c κs =
-    let q = c .before .before .before .before .before .before .before .before .before .pre .1 in
-    (omega (arith, q .within, c .before .before .before .before .before .before .before .before .before .pre .0), record { frame = q .frame; counted = q .counted; shallow = omega (arith, q .shallow) })
-
--- src/well_formed.rt:212:9
-check-row-child-end-requires : (t : ℕ) → check-row-lts.Need-child-end-requires (
-  row-child-reads.Asked,
-  row-child-reads.Learnt,
-  row-end-reads.Asked,
-  row-end-reads.Learnt,
-  check-record-below t,
-  check-record.Post,
-  child-end-reads.Asked,
-  child-end-reads.Learnt,
-  check-row-below t,
-  check-row.Post,
-) (check-row-at t) check-row.Post
-check-row-child-end-requires t c κs =
-    let a = c .before .before .before .before .before .before .before .before .before .before .before .before .args in
-    let q = c .before .before .before .before .before .before .before .before .before .before .before .before .pre .1 in
-    let v = c .before .before .check-record .ensures in
-    (q .frame, (q .witness, child-sees (q .frame) (a .left) (a .row) (a .byte) (a .w) (a .marks .now) (a .s) (q .there) (c .before .before .before .before .before .before .before .before .row-child .ensures) (c .before .before .before .before .before .before .c .given .1) (v .0) (v .1) (q .counted) .0))
-
--- src/well_formed.rt:213:21
-check-row-enum-known-x : (t : ℕ) → check-row-lts.Need-enum-known-x (
-  row-child-reads.Asked,
-  row-child-reads.Learnt,
-  row-end-reads.Asked,
-  row-end-reads.Learnt,
-  check-record-below t,
-  check-record.Post,
-  child-end-reads.Asked,
-  child-end-reads.Learnt,
-  check-row-below t,
-  check-row.Post,
-) (check-row-at t) check-row.Post
-check-row-enum-known-x t c = search needs
-
--- src/well_formed.rt:214:9
-check-row-enum-told-2 : (t : ℕ) → check-row-lts.Need-enum-told-2 (
-  row-child-reads.Asked,
-  row-child-reads.Learnt,
-  row-end-reads.Asked,
-  row-end-reads.Learnt,
-  check-record-below t,
-  check-record.Post,
-  child-end-reads.Asked,
-  child-end-reads.Learnt,
-  check-row-below t,
-  check-row.Post,
-) (check-row-at t) check-row.Post
-check-row-enum-told-2 t c = search needs
-
--- src/well_formed.rt:214:9
 check-row-same-length : (t : ℕ) → check-row-lts.Need-same-length (
   row-child-reads.Asked,
   row-child-reads.Learnt,
@@ -393,13 +288,10 @@ check-row-same-length : (t : ℕ) → check-row-lts.Need-same-length (
   check-record.Post,
   child-end-reads.Asked,
   child-end-reads.Learnt,
-  check-row-below t,
-  check-row.Post,
-) (check-row-at t) check-row.Post
-check-row-same-length t c = c .before .before .before .before .before .check-record .kept .0
+) (check-row-at t) check-row.Post Inv-loop μ-loop
+check-row-same-length t c = c .before .before .before .before .before .loop .inv .same-length
 
--- src/well_formed.rt:214:9
-check-row-returns-2 : (t : ℕ) → check-row-lts.Need-returns-2 (
+check-row-returns : (t : ℕ) → check-row-lts.Need-returns (
   row-child-reads.Asked,
   row-child-reads.Learnt,
   row-end-reads.Asked,
@@ -408,17 +300,10 @@ check-row-returns-2 : (t : ℕ) → check-row-lts.Need-returns-2 (
   check-record.Post,
   child-end-reads.Asked,
   child-end-reads.Learnt,
-  check-row-below t,
-  check-row.Post,
-) (check-row-at t) check-row.Post
-check-row-returns-2 t c =
-    let a = c .before .before .before .before .before .before .before .before .before .before .before .before .before .before .before .args in
-    let q = c .before .before .before .before .before .before .before .before .before .before .before .before .before .before .before .pre .1 in
-    let v = c .before .before .before .before .before .check-record .ensures in
-    row-breaks (q .frame) (a .left) (a .row) (a .byte) (a .w) (a .marks .now) (a .s) (q .there) (c .before .before .before .before .before .before .before .before .before .before .before .row-child .ensures) (c .before .before .before .before .before .before .before .before .before .c .given .1) (v .0) (v .1) (c .before .before .child-end .ensures) (c .enum-told2 .given .1)
+) (check-row-at t) check-row.Post Inv-loop μ-loop
+check-row-returns t c = row-stops (c .before .before .before .before .before .loop .inv) (c .before .before .before .row-child .ensures) (c .before .enum-told .given .1) (c .row-end .ensures)
 
--- src/well_formed.rt:216:49
-check-row-cast-check-row : (t : ℕ) → check-row-lts.Need-cast-check-row (
+check-row-add-check-record : (t : ℕ) → check-row-lts.Need-add-check-record (
   row-child-reads.Asked,
   row-child-reads.Learnt,
   row-end-reads.Asked,
@@ -427,17 +312,10 @@ check-row-cast-check-row : (t : ℕ) → check-row-lts.Need-cast-check-row (
   check-record.Post,
   child-end-reads.Asked,
   child-end-reads.Learnt,
-  check-row-below t,
-  check-row.Post,
-) (check-row-at t) check-row.Post
-check-row-cast-check-row t c =
-    let a = c .before .before .before .before .before .before .before .before .before .before .before .before .before .before .before .before .before .args in
-    let q = c .before .before .before .before .before .before .before .before .before .before .before .before .before .before .before .before .before .pre .1 in
-    let h = child-starts (q .frame) (a .left) (a .row) (a .byte) (a .w) (a .marks .now) (a .s) (q .there) (c .before .before .before .before .before .before .before .before .before .before .before .before .before .row-child .ensures) (c .before .before .before .before .before .before .before .before .before .before .before .c .given .1) in
-    omega (arith, h .byte)
+) (check-row-at t) check-row.Post Inv-loop μ-loop
+check-row-add-check-record t c = omega (arith, c .before .before .before .before .before .before .before .loop .inv .ready .shallow)
 
--- src/well_formed.rt:216:49
-check-row-add-check-row : (t : ℕ) → check-row-lts.Need-add-check-row (
+check-row-check-record-requires : (t : ℕ) → check-row-lts.Need-check-record-requires (
   row-child-reads.Asked,
   row-child-reads.Learnt,
   row-end-reads.Asked,
@@ -446,17 +324,12 @@ check-row-add-check-row : (t : ℕ) → check-row-lts.Need-add-check-row (
   check-record.Post,
   child-end-reads.Asked,
   child-end-reads.Learnt,
-  check-row-below t,
-  check-row.Post,
-) (check-row-at t) check-row.Post
-check-row-add-check-row t c =
-    let a = c .before .before .before .before .before .before .before .before .before .before .before .before .before .before .before .before .before .args in
-    let q = c .before .before .before .before .before .before .before .before .before .before .before .before .before .before .before .before .before .pre .1 in
-    let h = child-starts (q .frame) (a .left) (a .row) (a .byte) (a .w) (a .marks .now) (a .s) (q .there) (c .before .before .before .before .before .before .before .before .before .before .before .before .before .row-child .ensures) (c .before .before .before .before .before .before .before .before .before .before .before .c .given .1) in
-    omega (arith, h .byte)
+) (check-row-at t) check-row.Post Inv-loop μ-loop
+check-row-check-record-requires t c κs =
+    let q = c .before .before .before .before .before .before .before .loop .inv .ready in
+    (omega (arith, c .before .before .before .before .before .before .before .before .before .before .before .pre .0), record { frame = q .frame; counted = q .counted; shallow = q .shallow })
 
--- src/well_formed.rt:216:5
-check-row-check-row-requires : (t : ℕ) → check-row-lts.Need-check-row-requires (
+check-row-child-end-requires : (t : ℕ) → check-row-lts.Need-child-end-requires (
   row-child-reads.Asked,
   row-child-reads.Learnt,
   row-end-reads.Asked,
@@ -465,20 +338,36 @@ check-row-check-row-requires : (t : ℕ) → check-row-lts.Need-check-row-requir
   check-record.Post,
   child-end-reads.Asked,
   child-end-reads.Learnt,
-  check-row-below t,
-  check-row.Post,
-) (check-row-at t) check-row.Post
-check-row-check-row-requires t c κs =
-    let a = c .before .before .before .before .before .before .before .before .before .before .before .before .before .before .before .before .before .args in
-    let q = c .before .before .before .before .before .before .before .before .before .before .before .before .before .before .before .before .before .pre .1 in
-    let v = c .before .before .before .before .before .before .before .check-record .ensures in
-    let h = child-starts (q .frame) (a .left) (a .row) (a .byte) (a .w) (a .marks .now) (a .s) (q .there) (c .before .before .before .before .before .before .before .before .before .before .before .before .before .row-child .ensures) (c .before .before .before .before .before .before .before .before .before .before .before .c .given .1) in
-    let k = next-kept (q .frame) (a .left) (a .row) (a .byte) (a .w) (a .marks .now) (a .s) (q .there) (c .before .before .before .before .before .before .before .before .before .before .before .before .before .row-child .ensures) (c .before .before .before .before .before .before .before .before .before .before .before .c .given .1) (v .0) (v .1) (c .before .before .before .before .child-end .ensures) (c .before .before .x .given .1) (q .witness) (q .counted) in (
-      omega (arith, h .low, h .byte, q .within, c .before .before .before .before .before .before .before .before .before .before .before .before .before .before .before .before .before .pre .0),
-      record { frame = q .frame; there = q .there; within = omega (arith, h .byte); witness = k .0; counted = k .1; shallow = q .shallow },
-    )
+) (check-row-at t) check-row.Post Inv-loop μ-loop
+check-row-child-end-requires t c κs =
+    let g = c .before .before .before .before .before .before .before .before .before .before .loop .inv in
+    let v = c .before .before .check-record .ensures in
+    (g .ready .frame, (g .ready .witness, child-sees g (c .before .before .before .before .before .before .before .before .row-child .ensures) (c .before .before .before .before .before .before .c .given .1) (v .0) (v .1)))
 
--- src/well_formed.rt:193:1
+check-row-enum-known-x : (t : ℕ) → check-row-lts.Need-enum-known-x (
+  row-child-reads.Asked,
+  row-child-reads.Learnt,
+  row-end-reads.Asked,
+  row-end-reads.Learnt,
+  check-record-below t,
+  check-record.Post,
+  child-end-reads.Asked,
+  child-end-reads.Learnt,
+) (check-row-at t) check-row.Post Inv-loop μ-loop
+check-row-enum-known-x t c = search needs
+
+check-row-enum-told-2 : (t : ℕ) → check-row-lts.Need-enum-told-2 (
+  row-child-reads.Asked,
+  row-child-reads.Learnt,
+  row-end-reads.Asked,
+  row-end-reads.Learnt,
+  check-record-below t,
+  check-record.Post,
+  child-end-reads.Asked,
+  child-end-reads.Learnt,
+) (check-row-at t) check-row.Post Inv-loop μ-loop
+check-row-enum-told-2 t c = search needs
+
 check-row-same-length-2 : (t : ℕ) → check-row-lts.Need-same-length-2 (
   row-child-reads.Asked,
   row-child-reads.Learnt,
@@ -488,12 +377,99 @@ check-row-same-length-2 : (t : ℕ) → check-row-lts.Need-same-length-2 (
   check-record.Post,
   child-end-reads.Asked,
   child-end-reads.Learnt,
-  check-row-below t,
-  check-row.Post,
-) (check-row-at t) check-row.Post
-check-row-same-length-2 t c = c .before .before .check-row .kept .0 ∙ c .before .before .before .before .before .before .before .before .before .before .check-record .kept .0
+) (check-row-at t) check-row.Post Inv-loop μ-loop
+check-row-same-length-2 t c = c .before .before .before .before .before .check-record .kept .0 ∙ c .before .before .before .before .before .before .before .before .before .before .before .before .before .loop .inv .same-length
 
--- src/well_formed.rt:193:1
+check-row-returns-2 : (t : ℕ) → check-row-lts.Need-returns-2 (
+  row-child-reads.Asked,
+  row-child-reads.Learnt,
+  row-end-reads.Asked,
+  row-end-reads.Learnt,
+  check-record-below t,
+  check-record.Post,
+  child-end-reads.Asked,
+  child-end-reads.Learnt,
+) (check-row-at t) check-row.Post Inv-loop μ-loop
+check-row-returns-2 t c =
+    let v = c .before .before .before .before .before .check-record .ensures in
+    row-breaks (c .before .before .before .before .before .before .before .before .before .before .before .before .before .loop .inv) (c .before .before .before .before .before .before .before .before .before .before .before .row-child .ensures) (c .before .before .before .before .before .before .before .before .before .c .given .1) (v .0) (v .1) (c .before .before .child-end .ensures) (c .enum-told2 .given .1)
+
+check-row-cast-byte : (t : ℕ) → check-row-lts.Need-cast-byte (
+  row-child-reads.Asked,
+  row-child-reads.Learnt,
+  row-end-reads.Asked,
+  row-end-reads.Learnt,
+  check-record-below t,
+  check-record.Post,
+  child-end-reads.Asked,
+  child-end-reads.Learnt,
+) (check-row-at t) check-row.Post Inv-loop μ-loop
+check-row-cast-byte t c = omega (arith, child-starts (c .before .before .before .before .before .before .before .before .before .before .before .before .before .before .loop .inv) (c .before .before .before .before .before .before .before .before .before .before .before .before .row-child .ensures) (c .before .before .before .before .before .before .before .before .before .before .c .given .1) .byte)
+
+check-row-add-byte : (t : ℕ) → check-row-lts.Need-add-byte (
+  row-child-reads.Asked,
+  row-child-reads.Learnt,
+  row-end-reads.Asked,
+  row-end-reads.Learnt,
+  check-record-below t,
+  check-record.Post,
+  child-end-reads.Asked,
+  child-end-reads.Learnt,
+) (check-row-at t) check-row.Post Inv-loop μ-loop
+check-row-add-byte t c = omega (arith, child-starts (c .before .before .before .before .before .before .before .before .before .before .before .before .before .before .loop .inv) (c .before .before .before .before .before .before .before .before .before .before .before .before .row-child .ensures) (c .before .before .before .before .before .before .before .before .before .before .c .given .1) .byte)
+
+check-row-loop-less : (t : ℕ) → check-row-lts.Need-loop-less (
+  row-child-reads.Asked,
+  row-child-reads.Learnt,
+  row-end-reads.Asked,
+  row-end-reads.Learnt,
+  check-record-below t,
+  check-record.Post,
+  child-end-reads.Asked,
+  child-end-reads.Learnt,
+) (check-row-at t) check-row.Post Inv-loop μ-loop
+check-row-loop-less t c =
+    let h = child-starts (c .before .before .before .before .before .before .before .before .before .before .before .before .before .before .loop .inv) (c .before .before .before .before .before .before .before .before .before .before .before .before .row-child .ensures) (c .before .before .before .before .before .before .before .before .before .before .c .given .1) in
+    omega (arith, h .low, h .byte)
+
+check-row-loop-again : (t : ℕ) → check-row-lts.Need-loop-again (
+  row-child-reads.Asked,
+  row-child-reads.Learnt,
+  row-end-reads.Asked,
+  row-end-reads.Learnt,
+  check-record-below t,
+  check-record.Post,
+  child-end-reads.Asked,
+  child-end-reads.Learnt,
+) (check-row-at t) check-row.Post Inv-loop μ-loop
+check-row-loop-again t c =
+    let v = c .before .before .before .before .before .before .check-record .ensures in
+    row-goes (c .before .before .before .before .before .before .before .before .before .before .before .before .before .before .loop .inv) (c .before .before .before .before .before .before .before .before .before .before .before .before .row-child .ensures) (c .before .before .before .before .before .before .before .before .before .before .c .given .1) (v .0) (v .1) (c .before .before .before .child-end .ensures) (c .before .x .given .1) (c .before .before .before .before .before .before .check-record .kept .0)
+
+check-row-row-end-requires-2 : (t : ℕ) → check-row-lts.Need-row-end-requires-2 (
+  row-child-reads.Asked,
+  row-child-reads.Learnt,
+  row-end-reads.Asked,
+  row-end-reads.Learnt,
+  check-record-below t,
+  check-record.Post,
+  child-end-reads.Asked,
+  child-end-reads.Learnt,
+) (check-row-at t) check-row.Post Inv-loop μ-loop
+check-row-row-end-requires-2 t c κs = search needs
+
+check-row-same-length-3 : (t : ℕ) → check-row-lts.Need-same-length-3 (
+  row-child-reads.Asked,
+  row-child-reads.Learnt,
+  row-end-reads.Asked,
+  row-end-reads.Learnt,
+  check-record-below t,
+  check-record.Post,
+  child-end-reads.Asked,
+  child-end-reads.Learnt,
+) (check-row-at t) check-row.Post Inv-loop μ-loop
+check-row-same-length-3 t c = c .before .before .loop .inv .same-length
+
 check-row-returns-3 : (t : ℕ) → check-row-lts.Need-returns-3 (
   row-child-reads.Asked,
   row-child-reads.Learnt,
@@ -503,15 +479,8 @@ check-row-returns-3 : (t : ℕ) → check-row-lts.Need-returns-3 (
   check-record.Post,
   child-end-reads.Asked,
   child-end-reads.Learnt,
-  check-row-below t,
-  check-row.Post,
-) (check-row-at t) check-row.Post
-check-row-returns-3 t c =
-    let a = c .before .before .before .before .before .before .before .before .before .before .before .before .before .before .before .before .before .before .before .before .args in
-    let q = c .before .before .before .before .before .before .before .before .before .before .before .before .before .before .before .before .before .before .before .before .pre .1 in
-    let v = c .before .before .before .before .before .before .before .before .before .before .check-record .ensures in
-    let r = c .before .before .check-row .ensures in
-    row-goes (q .frame) (a .left) (a .row) (a .byte) (a .w) (a .marks .now) (a .s) (q .there) (c .before .before .before .before .before .before .before .before .before .before .before .before .before .before .before .before .row-child .ensures) (c .before .before .before .before .before .before .before .before .before .before .before .before .before .before .c .given .1) (v .0) (v .1) (c .before .before .before .before .before .before .before .child-end .ensures) (c .before .before .before .before .before .x .given .1) (r .0) (r .1)
+) (check-row-at t) check-row.Post Inv-loop μ-loop
+check-row-returns-3 t c = row-over (c .before .before .loop .inv) (c .before .loop-test .left) (c .row-end2 .ensures)
 
 pub +check-record+check-row-spec : {M : Type 1} → statement M
 +check-record+check-row-spec = close μ-check-record μ-check-row (λ t. check-record-lts.spec (
@@ -546,25 +515,29 @@ pub +check-record+check-row-spec : {M : Type 1} → statement M
       check-record.Post,
       child-end-reads.Asked,
       child-end-reads.Learnt,
-      check-row-below t,
-      check-row.Post,
     )
     (check-row-at t)
     check-row.Post
+    Inv-loop
+    μ-loop
+    (check-row-loop-holds t)
     (check-row-row-child-requires t)
     (check-row-enum-known-c t)
     (check-row-enum-told t)
     (check-row-row-end-requires t)
+    (check-row-same-length t)
     (check-row-returns t)
     (check-row-add-check-record t)
     (check-row-check-record-requires t)
     (check-row-child-end-requires t)
     (check-row-enum-known-x t)
     (check-row-enum-told-2 t)
-    (check-row-same-length t)
-    (check-row-returns-2 t)
-    (check-row-cast-check-row t)
-    (check-row-add-check-row t)
-    (check-row-check-row-requires t)
     (check-row-same-length-2 t)
+    (check-row-returns-2 t)
+    (check-row-cast-byte t)
+    (check-row-add-byte t)
+    (check-row-loop-less t)
+    (check-row-loop-again t)
+    (check-row-row-end-requires-2 t)
+    (check-row-same-length-3 t)
     (check-row-returns-3 t)
