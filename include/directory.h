@@ -17,8 +17,8 @@
  *
  * A tag is any string of bytes, up to 64 of them. No held tag begins another.
  *
- * Check, first-at-or-after, insert and delete look at the whole directory, and use up to 700 bytes of stack for each child that is passed on the way down to
- * a leaf: 183 KB were measured for 256 one-byte tags; some 3 MB are the most that 4,096 tags can ask for.
+ * Check, first-at-or-after, insert and delete look at the whole directory, and use some 900 bytes of stack for each level of the tree: some 64 KB for the
+ * deepest one that there can be.
  */
 #ifndef DIRECTORY_H
 #define DIRECTORY_H
