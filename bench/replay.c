@@ -5,8 +5,10 @@
  *
  * A call a line; tags in hexadecimal, '-' for the empty tag; numbers in decimal:
  *   start FORM C1 C2 C3 C4 C5 WORDS KEYS SCRATCH   slices of these lengths, filled with rubbish, and a start
+ *   again C1 C2 C3 C4 C5                           a start on the slices as they are
  *   insert TAG TOTAL, delete TAG, search TAG, prefix TAG, after TAG, min, max, next LEAF, info LEAF, tag LEAF, check
  *   word I VALUE, key I VALUE                      one word or key byte overwritten
+ *   words FRONT BACK, keys FRONT BACK              so many words or key bytes more at the front and at the back, all 0, or less where it is negative
  *   scratch LENGTH                                 another scratch slice
  *   save, back                                     words and key bytes kept, and brought back
  * FORM is the form of the layout, of which there is one, 1. Answers end in a 0 where other implementations may say more of a tag.
@@ -99,6 +101,12 @@ static void start(void) {
     printf(" %" PRIu32, directory_start(BLOCK, v[1], v[2], v[3], v[4], v[5]));
 }
 
+static void start_again(void) {
+    uint64_t v[5];
+    for (int i = 0; i < 5; i++) v[i] = strtoull(field[i + 1], NULL, 10);
+    printf(" %" PRIu32, directory_start(BLOCK, v[0], v[1], v[2], v[3], v[4]));
+}
+
 static void insert(void) { say_changed(directory_insert(BLOCK, SCRATCH, TAG, second)); }
 static void delete(void) { say_changed(directory_delete(BLOCK, SCRATCH, TAG)); }
 static void search(void) { say_found(directory_search(BLOCK, TAG)); }
@@ -130,6 +138,19 @@ static void write_key(void) {
     at(keys)[first] = (uint8_t)second;
 }
 
+/* The slice with other ends, which the second and the third field say in units of this width; what is cut off must be there. */
+static void reach(slice *s, int64_t width) {
+    slice old = *s, new = {NULL, 0};
+    int64_t front = (int64_t)first * width, size = (int64_t)old.size + front + (int64_t)second * width;
+    if (size < 0 || front < -(int64_t)old.size) refuse_line();
+    lend(&new, (size_t)size, "", 1);
+    for (int64_t i = 0; i < size; i++) at(new)[i] = i >= front && i - front < (int64_t)old.size ? at(old)[i - front] : 0;
+    free(old.room);
+    *s = new;
+}
+
+static void reach_words(void) { reach(&words, 4); }
+static void reach_keys(void) { reach(&keys, 1); }
 static void lend_scratch(void) { lend(&scratch, first, "\x55", 1); }
 static void save(void) { copy(&kept_words, words), copy(&kept_keys, keys); }
 static void back(void) { copy(&words, kept_words), copy(&keys, kept_keys); }
@@ -142,11 +163,11 @@ static const struct {
     has_tag tagged;
     void (*run)(void);
 } calls[] = {
-    {"start", MOST_FIELDS, NO_TAG, start}, {"insert", 3, WITH_TAG, insert}, {"delete", 2, WITH_TAG, delete}, {"search", 2, WITH_TAG, search},
-    {"prefix", 2, WITH_TAG, prefix_search}, {"after", 2, WITH_TAG, at_or_after}, {"min", 1, NO_TAG, minimum}, {"max", 1, NO_TAG, maximum},
-    {"next", 2, NO_TAG, next_leaf}, {"info", 2, NO_TAG, leaf_facts}, {"tag", 2, NO_TAG, leaf_tag}, {"check", 1, NO_TAG, check},
-    {"word", 3, NO_TAG, write_word}, {"key", 3, NO_TAG, write_key}, {"scratch", 2, NO_TAG, lend_scratch}, {"save", 1, NO_TAG, save},
-    {"back", 1, NO_TAG, back},
+    {"start", MOST_FIELDS, NO_TAG, start}, {"again", 6, NO_TAG, start_again}, {"insert", 3, WITH_TAG, insert}, {"delete", 2, WITH_TAG, delete},
+    {"search", 2, WITH_TAG, search}, {"prefix", 2, WITH_TAG, prefix_search}, {"after", 2, WITH_TAG, at_or_after}, {"min", 1, NO_TAG, minimum},
+    {"max", 1, NO_TAG, maximum}, {"next", 2, NO_TAG, next_leaf}, {"info", 2, NO_TAG, leaf_facts}, {"tag", 2, NO_TAG, leaf_tag}, {"check", 1, NO_TAG, check},
+    {"word", 3, NO_TAG, write_word}, {"key", 3, NO_TAG, write_key}, {"words", 3, NO_TAG, reach_words}, {"keys", 3, NO_TAG, reach_keys},
+    {"scratch", 2, NO_TAG, lend_scratch}, {"save", 1, NO_TAG, save}, {"back", 1, NO_TAG, back},
 };
 
 static void run(int fields) {

@@ -1,11 +1,12 @@
 #!/bin/sh
 # Puts the same command lists to the crate and to the port and compares the answers; then sees that the known differences are still those of
-# differences.txt.
+# differences.txt, and that the program `vectors` still has the list that traces.py writes for it and the crate's own answers.
 #
 #   bench/run.sh [quick]
 #
 # Needs cargo, python3, a C compiler for x86-64 and, unless LIBRARY names a static library of the port, rt. On another machine than x86-64 the port runs
-# in qemu-x86_64, or in what QEMU names. Exit status 0: no difference; 1: some; 2: something that is needed is missing.
+# in qemu-x86_64, or in what QEMU names. Exit status 0: no difference; 1: some, or something is wrong;
+# 2: something that is needed is missing.
 set -eu
 cd "$(dirname "$0")"
 out=$PWD/../target/bench
@@ -14,6 +15,11 @@ mkdir -p "$out"
 missing() {
     echo "run.sh: $1" >&2
     exit 2
+}
+
+wrong() {
+    echo "run.sh: $1" >&2
+    exit 1
 }
 
 # All tools are looked for before anything is built, so that what is missing is told from what is wrong.
@@ -25,7 +31,7 @@ find_tools() {
 }
 
 build_crate() {
-    (cd blart && sha256sum --check --quiet supplied.sha256) || missing "a supplied file of the crate was changed"
+    (cd blart && sha256sum --check --quiet supplied.sha256) || wrong "a supplied file of the crate was changed"
     CARGO_HOME=$out/cargo-home cargo build --quiet --offline --manifest-path blart/Cargo.toml --target-dir "$out/cargo"
     crate=$out/cargo/debug/driver
 }
@@ -33,7 +39,7 @@ build_crate() {
 build_library() {
     library=${LIBRARY:-$PWD/../target/staticlib/libdirectory_c.a}
     if [ -z "${LIBRARY:-}" ] && command -v rt > /dev/null; then
-        (cd .. && rt staticlib directory_c) > "$out/staticlib.log" 2>&1 || { cat "$out/staticlib.log"; missing "rt did not write the library"; }
+        (cd .. && rt staticlib directory_c) > "$out/staticlib.log" 2>&1 || { cat "$out/staticlib.log"; wrong "rt did not write the library"; }
     fi
     [ -f "$library" ] || missing "no $library; 'rt staticlib directory_c' writes it"
 }
@@ -97,6 +103,16 @@ compare_known() {
     diff differences.txt "$out/known.txt" || known=1
 }
 
+# The program runs on its stdin in the gate and is compared with its stdout; here both are compared with what they were made from.
+compare_vectors() {
+    python3 traces.py vectors "$out/vectors.cmd"
+    "$crate" < "$out/vectors.cmd" > "$out/vectors.crate" || true
+    vectors=0
+    diff ../crates/vectors/stdin "$out/vectors.cmd" > "$out/vectors.diff" || vectors=1
+    diff ../crates/vectors/stdout "$out/vectors.crate" >> "$out/vectors.diff" || vectors=1
+    head -n 12 "$out/vectors.diff"
+}
+
 find_tools
 build_crate
 build_library
@@ -105,6 +121,8 @@ rm -rf "$out/lists"
 python3 traces.py ${1:+"$1"} "$out/lists"
 compare_lists
 compare_known
+compare_vectors
 [ "$known" = 0 ] && echo "differences.txt: as noted" || echo "differences.txt: not as noted"
+[ "$vectors" = 0 ] && echo "crates/vectors: the crate's answers" || echo "crates/vectors: not the crate's answers"
 echo "$lists lists: $commands commands, $differences differences"
-[ "$differences" = 0 ] && [ "$known" = 0 ]
+[ "$differences" = 0 ] && [ "$known" = 0 ] && [ "$vectors" = 0 ]

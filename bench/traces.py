@@ -2,6 +2,7 @@
 """Writes the command lists that are put to the crate and to the port.
 
     traces.py [quick] FOLDER      FOLDER/NAME.cmd for each list
+    traces.py vectors FILE        the list of the program `vectors`, a sample of these
 
 The lists are the same in every run: what is called random comes from a generator of our own with fixed seeds. No tag has over 64 bytes and no list
 holds more tags than its `reset` makes room for, because the crate knows neither limit.
@@ -129,6 +130,9 @@ def full_length(dice):
     return bytes(tag)
 
 
+SHAPES = [(two_letters, 64), (all_bytes, 300), (long_runs, 100), (three_bytes, 300), (full_length, 200)]
+
+
 def near(dice, tag):
     """A held tag, sometimes cut short or with a byte more."""
     case = dice.below(8)
@@ -170,18 +174,61 @@ def lists(quick):
         yield "small3", small(3, [])
         yield "kinds_down", kinds(down, up)
         yield "kinds_mix", kinds(Dice(5).shuffled(up), Dice(6).shuffled(up))
-    shapes = [(two_letters, 64), (all_bytes, 300), (long_runs, 100), (three_bytes, 300), (full_length, 200)]
-    for at, (shape, room) in enumerate(shapes):
+    for at, (shape, room) in enumerate(SHAPES):
         yield shape.__name__, drawn(1000 + at, shape, 100 if quick else 4000, room)
 
 
+def marks(coming, going, head):
+    """As many children of one record as it takes to reach kind 4, and all out again, told where the kind is about to change and where it has changed."""
+    yield "reset 256"
+    for at, byte in enumerate(coming):
+        yield insert(head + bytes([byte]), byte)
+        yield from ["slots"] if at + 1 in (4, 5, 16, 17, 48, 49) else []
+    yield from STATE + ENDS
+    for at, byte in enumerate(going):
+        yield ask("d", head + bytes([byte]))
+        yield from ["kinds"] if len(going) - at - 1 in (49, 48, 17, 16, 5, 4, 2, 1) else []
+    yield from STATE
+
+
+def histories(commands):
+    """A list cut before each reset."""
+    cut = []
+    for command in commands:
+        cut += [[]] if command.startswith("reset") else []
+        cut[-1].append(command)
+    return cut
+
+
+def vectors():
+    """The list of the program `vectors`: some histories of the lists that have many, and shorter ones of the shapes of the others."""
+    dice, asked_for = Dice(2026), [b"", b"a", b"ab", b"aaa", b"c"]
+    for history in dice.shuffled(histories(small(3, [])))[:12]:
+        yield from history + asked([dice.pick(asked_for)])
+    for history in dice.shuffled(histories(runs(3)))[:8]:
+        yield from history
+    for head in (b"", b"123456789"):
+        some = dice.shuffled(range(256))[:50]
+        yield from marks(some, dice.shuffled(some), head)
+    yield from (command for command in deep(1) if command not in ("draw", "kinds", "list"))
+    for at, (shape, _) in enumerate(SHAPES):
+        yield from drawn(2000 + at, shape, 30, 64)
+
+
+def write(path, commands):
+    path.write_text("\n".join(commands) + "\n")
+
+
 def main():
-    if len(sys.argv) < 2 or sys.argv[1:-1] not in ([], ["quick"]):
+    if len(sys.argv) < 2 or sys.argv[1:-1] not in ([], ["quick"], ["vectors"]):
         sys.exit(__doc__)
-    quick, folder = len(sys.argv) == 3, pathlib.Path(sys.argv[-1])
-    folder.mkdir(parents=True, exist_ok=True)
-    for name, commands in lists(quick):
-        (folder / f"{name}.cmd").write_text("\n".join(commands) + "\n")
+    option, path = sys.argv[1:-1], pathlib.Path(sys.argv[-1])
+    if option == ["vectors"]:
+        write(path, vectors())
+        return
+    path.mkdir(parents=True, exist_ok=True)
+    for name, commands in lists(option == ["quick"]):
+        write(path / f"{name}.cmd", commands)
 
 
 if __name__ == "__main__":

@@ -17,8 +17,11 @@
  *
  * A tag is any string of bytes, up to 64 of them. No held tag begins another.
  *
- * Check, first-at-or-after, insert and delete look at the whole directory, and use some 900 bytes of stack for each level of the tree: some 64 KB for the
- * deepest one that there can be.
+ * The words, key bytes, scratch and tag of one call must not overlap, and each pointer must be aligned and good for its count. To insert or delete a tag that
+ * directory_leaf_tag showed, copy it out of the key bytes first.
+ *
+ * Check, first-at-or-after, insert and delete look at the whole directory, and use the stack for it: some 6 KB, and some 900 bytes more for each level of the
+ * tree. That is 7 KB for 256 one-byte tags and 64 KB for the deepest tree that there can be (measured, not proved).
  */
 #ifndef DIRECTORY_H
 #define DIRECTORY_H
@@ -30,7 +33,8 @@
 extern "C" {
 #endif
 
-/* A leaf's number and total. The number serves directory_next_leaf and the two calls on a leaf until the next insert or delete. */
+/* What the call gives back, as above; then a leaf's number, which serves directory_next_leaf and the two calls on a leaf until the next start, insert or
+ * delete; and its total. */
 typedef struct {
     uint32_t number;
     uint32_t leaf;

@@ -74,13 +74,13 @@ module _ {A : Type 0} where
 
   -- ── the theorems on what the records show ──
   -- the tags that such records show are sorted, and none begins another
-  pub theorem-S : (node : Node A) → Agrees node [] → Sorted (node-contents node)
-  theorem-S node h = let s = agrees-seen node [] h in rw (← s .2) (rw (root-contents (s .0)) (sorted (s .0) (s .1)))
+  pub agrees-sorted : (node : Node A) → Agrees node [] → Sorted (node-contents node)
+  agrees-sorted node h = let s = agrees-seen node [] h in rw (← s .2) (rw (root-contents (s .0)) (sorted (s .0) (s .1)))
 
   -- the walk over such records finds what the listing of them holds
-  pub theorem-L : (node : Node A) → Agrees node [] → (m : Aim) (s : Tag) → walk node m 0 false s ≡ find m s (node-contents node)
-  theorem-L node h m s = let t = agrees-seen node [] h in rw (← t .2) (rw (root-contents (t .0)) (walk-is-find (t .0) (t .1) m s))
+  pub agrees-find : (node : Node A) → Agrees node [] → (m : Aim) (s : Tag) → walk node m 0 false s ≡ find m s (node-contents node)
+  agrees-find node h m s = let t = agrees-seen node [] h in rw (← t .2) (rw (root-contents (t .0)) (walk-is-find (t .0) (t .1) m s))
 
   -- such records draw what the tags alone draw
-  pub theorem-D : (node : Node A) → Agrees node [] → node-erase node ≡ draw (node-contents node)
-  theorem-D node h = let t = agrees-seen node [] h in rw (← t .2) (rw (root-contents (t .0)) (show-erase (t .0) [] ∙ erase-is-draw (t .0) (t .1)))
+  pub agrees-draw : (node : Node A) → Agrees node [] → node-erase node ≡ draw (node-contents node)
+  agrees-draw node h = let t = agrees-seen node [] h in rw (← t .2) (rw (root-contents (t .0)) (show-erase (t .0) [] ∙ erase-is-draw (t .0) (t .1)))

@@ -1,4 +1,4 @@
--- The rule of 01 on what the records show: every tag below agrees with every prefix byte, the unstored included, and with each child byte.
+-- What a sound block asks of its tags, on what the records show: each tag below a record has every byte of its run, those that are not stored too, and each child byte.
 use mathlib.Core.Path.{_≡_}
 use mathlib.Core.List.{[], _∷_, _++_}
 use Prim.Native.Nat.{ℕ, suc, _≤_, _<_}

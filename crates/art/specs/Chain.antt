@@ -51,14 +51,36 @@ abbrev pub follows : Links → ℕ → ℕ → Bool
 follows k r n = eqb (k .prev n) r && eqb (after-ref k r) (leaf-ref n)
 
 -- ── changes ──
--- leaf n's own links are p and q, what stands after the leaf that a refers to is x, and what stands before the one that b refers to is y; 0 refers to an end of the list
-abbrev pub set-links : Links → (n p q a x b y : ℕ) → Links
-set-links k n p q a x b y = record {
+-- x comes after the leaf that a refers to, or first of all where a is 0
+abbrev pub set-after : Links → ℕ → ℕ → Links
+set-after k a x = record {
   first = ite (ℕ-discrete a 0) x (k .first);
-  last = ite (ℕ-discrete b 0) y (k .last);
-  prev = λ m. ite (ℕ-discrete m n) p (ite (ℕ-discrete (leaf-ref m) b) y (k .prev m));
-  next = λ m. ite (ℕ-discrete m n) q (ite (ℕ-discrete (leaf-ref m) a) x (k .next m));
+  last = k .last;
+  prev = k .prev;
+  next = λ m. ite (ℕ-discrete (leaf-ref m) a) x (k .next m);
 }
+
+-- y comes before the leaf that b refers to, or last of all where b is 0
+abbrev pub set-before : Links → ℕ → ℕ → Links
+set-before k b y = record {
+  first = k .first;
+  last = ite (ℕ-discrete b 0) y (k .last);
+  prev = λ m. ite (ℕ-discrete (leaf-ref m) b) y (k .prev m);
+  next = k .next;
+}
+
+-- leaf n's own links are p and q
+abbrev pub own-links : Links → ℕ → ℕ → ℕ → Links
+own-links k n p q = record {
+  first = k .first;
+  last = k .last;
+  prev = λ m. ite (ℕ-discrete m n) p (k .prev m);
+  next = λ m. ite (ℕ-discrete m n) q (k .next m);
+}
+
+-- all three: x after what a refers to, y before what b refers to, and leaf n's own links p and q
+abbrev pub set-links : Links → (n p q a x b y : ℕ) → Links
+set-links k n p q a x b y = own-links (set-before (set-after k a x) b y) n p q
 
 -- leaf n between what a and b refer to
 abbrev pub link-in : Links → (n a b : ℕ) → Links

@@ -1,6 +1,8 @@
 // The part of the bench sheet that is run: tags of 64 and 65 bytes, all 256 one-byte tags in and out, and the totals 0 and 2^64 - 1. Each call prints its
 // number and what is returned beside it.
 ghost use Prim.Native.Nat.{_≤_};
+use directory_c::DirectoryChanged;
+use directory_c::DirectoryFound;
 use frames::frame;
 use libc::STDOUT_FILENO;
 
@@ -25,63 +27,76 @@ fn say_number(n: u64) {
     io::print_decimal(STDOUT_FILENO, n);
 }
 
-fn say_changed(number: u32, total: u64) {
+// A number, what it is called, and the end of the line.
+fn say_line(text: &[u8], n: u64) {
+    say(text);
+    say_number(n);
+    say(b"\n");
+}
+
+fn say_changed(a: DirectoryChanged) {
     say(b" gives ");
-    say_number(number as u64);
-    say(b", total ");
-    say_number(total);
-    say(b"\n");
+    say_number(a.number as u64);
+    say_line(b", total ", a.total);
 }
 
-// An empty directory with these capacities.
-fn start(words: &mut [u32], keys: &mut [u8], c1: u32, c2: u32, c3: u32, c4: u32, c5: u32) {
-    let number = directory_c::directory_start(words, keys, c1, c2, c3, c4, c5);
-    say(b"start gives ");
-    say_number(number as u64);
-    say(b"\n");
+// An empty directory with that room.
+fn start(words: &mut [u32], keys: &mut [u8]) {
+    let number = directory_c::directory_start(words, keys, 1, 1, 1, 1, 256);
+    say_line(b"start gives ", number as u64);
 }
 
-fn insert(
-    words: &mut [u32],
-    keys: &mut [u8],
-    scratch: &mut [u8],
-    name: &[u8],
-    tag: &[u8],
-    total: u64,
-) {
-    let a = directory_c::directory_insert(words, keys, scratch, tag, total);
+// Scratch is lent for one call, so each call that wants it has its own.
+fn put(words: &mut [u32], keys: &mut [u8], tag: &[u8], total: u64) -> DirectoryChanged {
+    let mut scratch = [0u8; SCRATCH];
+    directory_c::directory_insert(words, keys, &mut scratch, tag, total)
+}
+
+fn take_out(words: &mut [u32], keys: &mut [u8], tag: &[u8]) -> DirectoryChanged {
+    let mut scratch = [0u8; SCRATCH];
+    directory_c::directory_delete(words, keys, &mut scratch, tag)
+}
+
+fn say_insert(name: &[u8], total: u64) {
     say(b"insert ");
     say(name);
     say(b" with ");
     say_number(total);
-    say_changed(a.number, a.total);
 }
 
-fn delete(words: &mut [u32], keys: &mut [u8], scratch: &mut [u8], name: &[u8], tag: &[u8]) {
-    let a = directory_c::directory_delete(words, keys, scratch, tag);
+fn insert(words: &mut [u32], keys: &mut [u8], name: &[u8], tag: &[u8], total: u64) {
+    say_insert(name, total);
+    say_changed(put(words, keys, tag, total));
+}
+
+fn say_delete(name: &[u8]) {
     say(b"delete ");
     say(name);
-    say_changed(a.number, a.total);
 }
 
-fn search(words: &[u32], keys: &[u8], name: &[u8], tag: &[u8]) {
-    let a = directory_c::directory_search(words, keys, tag);
-    say(b"search ");
-    say(name);
+fn delete(words: &mut [u32], keys: &mut [u8], name: &[u8], tag: &[u8]) {
+    say_delete(name);
+    say_changed(take_out(words, keys, tag));
+}
+
+fn say_found(a: DirectoryFound) {
     say(b" gives ");
     say_number(a.number as u64);
     say(b", leaf ");
     say_number(a.leaf as u64);
-    say(b", total ");
-    say_number(a.total);
-    say(b"\n");
+    say_line(b", total ", a.total);
 }
 
-fn check(words: &[u32], keys: &[u8], scratch: &mut [u8]) {
-    let number = directory_c::directory_check(words, keys, scratch);
-    say(b"check gives ");
-    say_number(number as u64);
-    say(b"\n");
+fn search(words: &[u32], keys: &[u8], name: &[u8], tag: &[u8]) {
+    say(b"search ");
+    say(name);
+    say_found(directory_c::directory_search(words, keys, tag));
+}
+
+fn check(words: &[u32], keys: &[u8]) {
+    let mut scratch = [0u8; SCRATCH];
+    let number = directory_c::directory_check(words, keys, &mut scratch);
+    say_line(b"check gives ", number as u64);
 }
 
 // The kind of the root, 5 for a leaf, 0 for none.
@@ -97,9 +112,7 @@ fn say_root(before: u32, now: u32, byte: u32) -> u32 {
     if before != now {
         say(b"  byte ");
         say_number(byte as u64);
-        say(b": the root is of kind ");
-        say_number(now as u64);
-        say(b"\n");
+        say_line(b": the root is of kind ", now as u64);
     }
     now
 }
@@ -113,45 +126,43 @@ fn accepted(number: u32, byte: u32) -> u32
     }
     say(b"  byte ");
     say_number(byte as u64);
-    say(b" gives ");
-    say_number(number as u64);
-    say(b"\n");
+    say_line(b" gives ", number as u64);
     0
 }
 
 // The tag of one byte goes in with the total 1000 + byte.
-fn byte_in(words: &mut [u32], keys: &mut [u8], scratch: &mut [u8], byte: u32) -> u32
+fn byte_in(words: &mut [u32], keys: &mut [u8], byte: u32) -> u32
     ensures { λ r. ⌜ r ≤ 1 ⌝ }
 {
     let tag = [(byte % 256) as u8];
-    let a = directory_c::directory_insert(words, keys, scratch, &tag, 1000 + byte as u64);
+    let a = put(words, keys, &tag, 1000 + byte as u64);
     accepted(a.number, byte)
 }
 
-fn byte_out(words: &mut [u32], keys: &mut [u8], scratch: &mut [u8], byte: u32) -> u32
+fn byte_out(words: &mut [u32], keys: &mut [u8], byte: u32) -> u32
     ensures { λ r. ⌜ r ≤ 1 ⌝ }
 {
     let tag = [(byte % 256) as u8];
-    let a = directory_c::directory_delete(words, keys, scratch, &tag);
+    let a = take_out(words, keys, &tag);
     accepted(a.number, byte)
 }
 
-fn byte_turn(words: &mut [u32], keys: &mut [u8], scratch: &mut [u8], byte: u32, way: Way) -> u32
+fn byte_turn(words: &mut [u32], keys: &mut [u8], byte: u32, way: Way) -> u32
     ensures { λ r. ⌜ r ≤ 1 ⌝ }
 {
     let Way::In = way else {
-        return byte_out(words, keys, scratch, byte);
+        return byte_out(words, keys, byte);
     };
-    byte_in(words, keys, scratch, byte)
+    byte_in(words, keys, byte)
 }
 
 // All 256 one-byte tags, the lowest first, with a line where the root's kind changes.
-fn all_bytes(words: &mut [u32], keys: &mut [u8], scratch: &mut [u8], way: Way) {
+fn all_bytes(words: &mut [u32], keys: &mut [u8], way: Way) {
     let mut n: u32 = 0;
     let mut kind = root_kind(words);
     let mut byte: u32 = 0;
     while byte < 256 {
-        n = n + byte_turn(words, keys, scratch, byte, way);
+        n = n + byte_turn(words, keys, byte, way);
         kind = say_root(kind, root_kind(words), byte);
         byte += 1;
     }
@@ -197,25 +208,18 @@ fn listing(words: &[u32], keys: &[u8]) {
 }
 
 // As many As, up to one byte too many.
-fn insert_run(
-    words: &mut [u32],
-    keys: &mut [u8],
-    scratch: &mut [u8],
-    name: &[u8],
-    n: usize,
-    total: u64,
-)
+fn insert_run(words: &mut [u32], keys: &mut [u8], name: &[u8], n: usize, total: u64)
     requires { ⌜ n ≤ 65 ⌝ }
 {
     let run = [b'A'; 65];
-    insert(words, keys, scratch, name, &run[0..n], total);
+    insert(words, keys, name, &run[0..n], total);
 }
 
-fn delete_run(words: &mut [u32], keys: &mut [u8], scratch: &mut [u8], name: &[u8], n: usize)
+fn delete_run(words: &mut [u32], keys: &mut [u8], name: &[u8], n: usize)
     requires { ⌜ n ≤ 65 ⌝ }
 {
     let run = [b'A'; 65];
-    delete(words, keys, scratch, name, &run[0..n]);
+    delete(words, keys, name, &run[0..n]);
 }
 
 fn search_run(words: &[u32], keys: &[u8], name: &[u8], n: usize)
@@ -226,10 +230,10 @@ fn search_run(words: &[u32], keys: &[u8], name: &[u8], n: usize)
 }
 
 // 63 As and a B: parts from the longest run at its last byte.
-fn insert_parting(words: &mut [u32], keys: &mut [u8], scratch: &mut [u8]) {
+fn insert_parting(words: &mut [u32], keys: &mut [u8]) {
     let mut tag = [b'A'; 64];
     tag[63] = b'B';
-    insert(words, keys, scratch, b"64 bytes, the last another", &tag, 4);
+    insert(words, keys, b"64 bytes, the last another", &tag, 4);
 }
 
 fn search_parting(words: &[u32], keys: &[u8]) {
@@ -239,91 +243,105 @@ fn search_parting(words: &[u32], keys: &[u8]) {
 }
 
 // One byte more is too long, one less would begin a held tag.
-fn long_in(words: &mut [u32], keys: &mut [u8], scratch: &mut [u8]) {
-    insert_run(words, keys, scratch, b"64 bytes", 64, 1);
-    insert_run(words, keys, scratch, b"65 bytes", 65, 2);
-    insert_run(words, keys, scratch, b"63 bytes", 63, 3);
-    insert_parting(words, keys, scratch);
+fn long_in(words: &mut [u32], keys: &mut [u8]) {
+    insert_run(words, keys, b"64 bytes", 64, 1);
+    insert_run(words, keys, b"65 bytes", 65, 2);
+    insert_run(words, keys, b"63 bytes", 63, 3);
+    insert_parting(words, keys);
 }
 
-fn long_found(words: &[u32], keys: &[u8], scratch: &mut [u8]) {
+fn long_found(words: &[u32], keys: &[u8]) {
     search_run(words, keys, b"64 bytes", 64);
     search_run(words, keys, b"65 bytes", 65);
-    check(words, keys, scratch);
+    check(words, keys);
 }
 
-fn long_out(words: &mut [u32], keys: &mut [u8], scratch: &mut [u8]) {
-    delete_run(words, keys, scratch, b"65 bytes", 65);
-    delete_run(words, keys, scratch, b"64 bytes", 64);
+fn long_out(words: &mut [u32], keys: &mut [u8]) {
+    delete_run(words, keys, b"65 bytes", 65);
+    delete_run(words, keys, b"64 bytes", 64);
     search_parting(words, keys);
-    check(words, keys, scratch);
+    check(words, keys);
 }
 
 // The longest tag, and one byte too many.
-fn long_tags(words: &mut [u32], keys: &mut [u8], scratch: &mut [u8]) {
-    start(words, keys, 1, 1, 1, 1, 256);
-    long_in(words, keys, scratch);
-    long_found(words, keys, scratch);
-    long_out(words, keys, scratch);
+fn long_tags(words: &mut [u32], keys: &mut [u8]) {
+    start(words, keys);
+    long_in(words, keys);
+    long_found(words, keys);
+    long_out(words, keys);
 }
 
-fn bytes_in(words: &mut [u32], keys: &mut [u8], scratch: &mut [u8]) {
+fn check_and_list(words: &[u32], keys: &[u8]) {
+    check(words, keys);
+    listing(words, keys);
+}
+
+fn bytes_in(words: &mut [u32], keys: &mut [u8]) {
     say(b"all 256 one-byte tags in\n");
-    all_bytes(words, keys, scratch, Way::In);
-    check(words, keys, scratch);
-    listing(words, keys);
+    all_bytes(words, keys, Way::In);
+    check_and_list(words, keys);
 }
 
-fn bytes_out(words: &mut [u32], keys: &mut [u8], scratch: &mut [u8]) {
+fn bytes_out(words: &mut [u32], keys: &mut [u8]) {
     say(b"all 256 one-byte tags out\n");
-    all_bytes(words, keys, scratch, Way::Out);
-    check(words, keys, scratch);
-    listing(words, keys);
+    all_bytes(words, keys, Way::Out);
+    check_and_list(words, keys);
 }
 
 // One that is held already, and one that a held tag begins.
-fn bytes_again(words: &mut [u32], keys: &mut [u8], scratch: &mut [u8]) {
-    insert(words, keys, scratch, b"B once more", b"B", 7);
-    insert(words, keys, scratch, b"BB", b"BB", 8);
+fn bytes_again(words: &mut [u32], keys: &mut [u8]) {
+    insert(words, keys, b"B once more", b"B", 7);
+    insert(words, keys, b"BB", b"BB", 8);
 }
 
-fn one_byte_tags(words: &mut [u32], keys: &mut [u8], scratch: &mut [u8]) {
-    start(words, keys, 1, 1, 1, 1, 256);
-    bytes_in(words, keys, scratch);
-    bytes_again(words, keys, scratch);
-    bytes_out(words, keys, scratch);
+fn one_byte_tags(words: &mut [u32], keys: &mut [u8]) {
+    start(words, keys);
+    bytes_in(words, keys);
+    bytes_again(words, keys);
+    bytes_out(words, keys);
 }
 
-fn set_and_read(words: &mut [u32], keys: &mut [u8], scratch: &mut [u8], total: u64) {
-    insert(words, keys, scratch, b"L14A", b"L14A", total);
-    search(words, keys, b"L14A", b"L14A");
+fn put_in(words: &mut [u32], keys: &mut [u8], tag: &[u8], total: u64) {
+    insert(words, keys, tag, tag, total);
 }
 
-fn edges_out(words: &mut [u32], keys: &mut [u8], scratch: &mut [u8]) {
-    delete(words, keys, scratch, b"L14A", b"L14A");
-    delete(words, keys, scratch, b"L14B", b"L14B");
-    check(words, keys, scratch);
+fn take_away(words: &mut [u32], keys: &mut [u8], tag: &[u8]) {
+    delete(words, keys, tag, tag);
 }
 
-fn edges_in_and_out(words: &mut [u32], keys: &mut [u8], scratch: &mut [u8]) {
-    insert(words, keys, scratch, b"L14A", b"L14A", 0);
-    insert(words, keys, scratch, b"L14B", b"L14B", u64::MAX);
-    edges_out(words, keys, scratch);
+fn read(words: &[u32], keys: &[u8], tag: &[u8]) {
+    search(words, keys, tag, tag);
+}
+
+fn set_and_read(words: &mut [u32], keys: &mut [u8], total: u64) {
+    put_in(words, keys, b"L14A", total);
+    read(words, keys, b"L14A");
+}
+
+fn edges_out(words: &mut [u32], keys: &mut [u8]) {
+    take_away(words, keys, b"L14A");
+    take_away(words, keys, b"L14B");
+    check(words, keys);
+}
+
+fn edges_in_and_out(words: &mut [u32], keys: &mut [u8]) {
+    put_in(words, keys, b"L14A", 0);
+    put_in(words, keys, b"L14B", u64::MAX);
+    edges_out(words, keys);
 }
 
 // The totals 0 and 2^64 - 1.
-fn edge_totals(words: &mut [u32], keys: &mut [u8], scratch: &mut [u8]) {
-    start(words, keys, 1, 1, 1, 1, 256);
-    set_and_read(words, keys, scratch, 0);
-    set_and_read(words, keys, scratch, u64::MAX);
-    edges_in_and_out(words, keys, scratch);
+fn edge_totals(words: &mut [u32], keys: &mut [u8]) {
+    start(words, keys);
+    set_and_read(words, keys, 0);
+    set_and_read(words, keys, u64::MAX);
+    edges_in_and_out(words, keys);
 }
 
 fn main() {
     let mut words = [0u32; WORDS];
     let mut keys = [0u8; KEYS];
-    let mut scratch = [0u8; SCRATCH];
-    long_tags(&mut words, &mut keys, &mut scratch);
-    one_byte_tags(&mut words, &mut keys, &mut scratch);
-    edge_totals(&mut words, &mut keys, &mut scratch);
+    long_tags(&mut words, &mut keys);
+    one_byte_tags(&mut words, &mut keys);
+    edge_totals(&mut words, &mut keys);
 }

@@ -8,7 +8,7 @@ use mathlib.Core.Bool.{true}
 use native.Mathlib.Omega.{arith}
 use Rattle.lists.specs.Scan.{all, atMost}
 use lib.ListN.{length}
-use Rattle.frames.specs.Frame.{rootWord}
+use Rattle.frames.specs.Frame.{rootWord, frame}
 use Rattle.frames.specs.Place.{recordAt}
 use Rattle.records.specs.Own.{totalOf}
 use Rattle.records.specs.View.{Held}
@@ -22,7 +22,7 @@ use Rattle.art.specs.Points.{store-of}
 use Rattle.view.specs.Links.{linksOf}
 use Rattle.whole.specs.Marks.{placesIn}
 use Rattle.whole.specs.Check.{Answer, numberOf, checkOf}
-use Rattle.whole.specs.Sound.{frame, Sound}
+use Rattle.whole.specs.Sound.{Sound}
 use Rattle.whole.specs.declared.check.Checked.{Checked}
 use Rattle.whole.specs.declared.check.Checked.the-variants as checked
 use Rattle.whole.proofs.Sounds.{sound-zero}
@@ -30,13 +30,13 @@ use Rattle.writes.specs.declared.leaf_node.Gap.{Gap}
 use Rattle.states.specs.State.{State}
 use Rattle.states.proofs.Steps.{state-leaf}
 use Rattle.states.proofs.Sounds.{sound-state}
-use Rattle.delete.specs.declared.answer.Deleted.{Deleted}
 use Rattle.delete.specs.declared.answer.Deleted.the-variants as deleted
 use Rattle.delete.specs.declared.plan.Cut.{Cut}
 use Rattle.delete.specs.declared.plan.Plan.{Plan}
-use Rattle.delete.specs.declared.plan.Plan.the-variants.{Out, Missing, Broken}
+use Rattle.delete.specs.declared.plan.Plan.the-variants.{Take, Missing, Broken}
 use Rattle.delete.specs.Plan.{planOf}
-use Rattle.delete.specs.Delete.{Left, planned, deleteSound, deleteBy, deleteChecked, deleteOf}
+use Rattle.delete.specs.Meets.{answerOf, Deletes}
+use Rattle.delete.specs.Delete.{planned, deleteSound, deleteBy, deleteChecked, deleteOf}
 use Rattle.delete.proofs.Grounds.{SoundFits, sound-fits}
 use Rattle.delete.proofs.Sounds.{delete-sound}
 
@@ -48,18 +48,6 @@ leave-none s (e ∷ l) h = go (tag-dec s (e .0)) (leave-none s l)
     go : (d : Dec (s ≡ e .0)) → (lookup s l ≡ none → leave s l ≡ l) → ite {C = Listing Held} d (leave s l) (e ∷ leave s l) ≡ e ∷ l
     go (yes i) ih = let found : some (e .1) ≡ none = sym (if-pos (fits-dec exact s (e .0)) i (some (e .1)) (lookup s l)) ∙ h in absurd (let z : _≡_ {A = ℕ} 0 1 = cc in omega arith)
     go (no i) ih = ap (λ (k : Listing Held). e ∷ k) (ih (sym (if-neg (fits-dec exact s (e .0)) i (some (e .1)) (lookup s l)) ∙ h))
-
--- what delete answers for what is held for its tag
-abbrev pub answerOf : Option Held → Deleted
-answerOf none = deleted.Missing
-answerOf (some a) = deleted.Gone (a .total)
-
--- what a call on a directory that holds this listing must leave
-pub record Deletes (tag scratch : List ℕ) (l : Listing Held) (r : Left) : Type 0 where
-  pub answer : r .answer ≡ answerOf (lookup tag l)
-  pub sound : Sound (r .words) (r .keys)
-  pub holds : held (sound .tree) ≡ leave tag l
-  pub scratch-stays : r .scratch ≡ scratch
 
 module _ {words keys : List ℕ} (s : Sound words keys) (tag : List ℕ) (bytes : all (atMost 255) tag ≡ true) where
   abbrev theirs : Listing Held
@@ -86,11 +74,11 @@ module _ {words keys : List ℕ} (s : Sound words keys) (tag : List ℕ) (bytes 
       go (some t) h = h
 
   -- and else the leaf that holds it, with its total
-  pub out-held : (cut : Cut) (n : ℕ) (gap : Gap) → planOf (frame words) words keys tag ≡ Out cut n gap
+  pub out-held : (cut : Cut) (n : ℕ) (gap : Gap) → planOf (frame words) words keys tag ≡ Take cut n gap
       → (a : Held) × (lookup tag theirs ≡ some a) × (a .number ≡ n) × (a .total ≡ totalOf (recordAt (frame words) words (leaf-place n)))
   out-held cut n gap e = go (s .tree) (sound-state s) (subst (SoundFits words keys tag (s .tree)) e fits)
     where
-      go : (d : Option (Tree Held)) → State (frame words) words keys (store-of d) (linksOf (frame words) words) (rootWord words) (length (held d)) → SoundFits words keys tag d (Out cut n gap)
+      go : (d : Option (Tree Held)) → State (frame words) words keys (store-of d) (linksOf (frame words) words) (rootWord words) (length (held d)) → SoundFits words keys tag d (Take cut n gap)
           → (a : Held) × (lookup tag (held d) ≡ some a) × (a .number ≡ n) × (a .total ≡ totalOf (recordAt (frame words) words (leaf-place n)))
       go none st h = absurd h
       go (some t) st o = (o .held, o .found, o .number-is, state-leaf st n tag (o .held) (o .leaf-is) .3)
@@ -101,7 +89,7 @@ module _ {words keys : List ℕ} (s : Sound words keys) (tag : List ℕ) (bytes 
       go : (p : Plan) → planOf (frame words) words keys tag ≡ p → p ≡ Missing
       go Missing e = refl
       go Broken e = absurd (never-broken e)
-      go (Out cut n gap) e = let o = out-held cut n gap e in let clash : some (o .0) ≡ none = sym (o .1) ∙ h in absurd (let z : _≡_ {A = ℕ} 0 1 = cc in omega arith)
+      go (Take cut n gap) e = let o = out-held cut n gap e in let clash : some (o .0) ≡ none = sym (o .1) ∙ h in absurd (let z : _≡_ {A = ℕ} 0 1 = cc in omega arith)
 
   -- ── what the call leaves ──
   pub delete-answers : (scratch : List ℕ) → Deletes tag scratch theirs (deleteSound words keys scratch tag)
@@ -111,7 +99,7 @@ module _ {words keys : List ℕ} (s : Sound words keys) (tag : List ℕ) (bytes 
       go : (p : Plan) → planOf (frame words) words keys tag ≡ p → Deletes tag scratch theirs (planned (frame words) words keys scratch p)
       go Missing e = record { answer = ap answerOf (sym (missing-held e)); sound = s; holds = sym (leave-none tag theirs (missing-held e)); scratch-stays = refl }
       go Broken e = absurd (never-broken e)
-      go (Out cut n gap) e =
+      go (Take cut n gap) e =
           let o = out-held cut n gap e in
           let after = delete-sound s tag bytes cut n gap e in
           record { answer = ap deleted.Gone (sym (o .3)) ∙ ap answerOf (sym (o .1)); sound = after .0; holds = after .1; scratch-stays = refl }

@@ -7,14 +7,14 @@ use mathlib.Core.Bool.{Bool, true}
 use borrow.Author.Tests.{eq-eqb}
 use lib.ListN.{length}
 use Rattle.lists.specs.Scan.{choose, all, atMost}
-use Rattle.frames.specs.Frame.{rootWord}
+use Rattle.frames.specs.Frame.{rootWord, frame}
 use Rattle.records.specs.View.{Held}
 use Rattle.art.specs.Trees.{Tree}
 use Rattle.art.specs.Deletes.{held}
 use Rattle.art.specs.Points.{store-of}
 use Rattle.view.specs.Links.{linksOf}
 use Rattle.reading.specs.Shown as shown
-use Rattle.whole.specs.Sound.{frame, Rooted, Sound}
+use Rattle.whole.specs.Sound.{Rooted, Sound}
 use Rattle.points.specs.Point.{pointOf}
 use Rattle.pointed.proofs.Sounds.{sound-shown}
 use Rattle.states.specs.State.{State}
@@ -26,7 +26,7 @@ use Rattle.delete.proofs.Plans.{PlanFits, plan-fits}
 
 -- what a plan says of a sound block: with no tree the tag is missing
 abbrev pub SoundFits : (words keys tag : List ℕ) → Option (Tree Held) → Plan → Type 0
-SoundFits words keys tag none (plan.Out cut n gap) = ⊥
+SoundFits words keys tag none (plan.Take cut n gap) = ⊥
 SoundFits words keys tag none plan.Missing = Unit {0}
 SoundFits words keys tag none plan.Broken = ⊥
 SoundFits words keys tag (some t) p = PlanFits (frame words) words keys tag t (linksOf (frame words) words) (length (held (some t))) p

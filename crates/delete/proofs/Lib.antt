@@ -10,7 +10,6 @@ pub mod Outs
 pub mod Sounds
 pub mod Answers
 pub mod Refusals
-mod Examples
 pub mod Planning
 pub mod Joins
 pub mod Calls

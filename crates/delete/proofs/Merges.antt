@@ -12,7 +12,7 @@ use Rattle.prefix.specs.declared.Prefix.{Prefix}
 use Rattle.prefix.proofs.Eights.{eight-held, eight-all, eight-zeros}
 use Rattle.prefix.proofs.Runs.{merge-length}
 use Rattle.frames.specs.declared.form.Form.{Form}
-use Rattle.edits.proofs.Inners.{PrefixFits}
+use Rattle.edits.specs.Inner.{PrefixFits}
 
 module _ (p : Prefix) (b : ℕ) (q : Prefix) where
   pub merge-full : mergeOf p b q .full .0 ≡ p .full .0 + 1 + q .full .0

@@ -28,7 +28,7 @@ use Rattle.delete.specs.Plan.{otherThan, otherEntry, mergeCut, shrinkCut
 use Rattle.delete.specs.declared.plan.Cut.{Cut}
 use Rattle.delete.specs.declared.plan.Cut.the-variants.{Stay, Shrink}
 use Rattle.delete.specs.declared.plan.Plan.{Plan}
-use Rattle.delete.specs.declared.plan.Plan.the-variants.{Out, Missing}
+use Rattle.delete.specs.declared.plan.Plan.the-variants.{Take, Missing}
 
 -- ---- of two children the other one
 pub other-by : (byte : ℕ) (row : List (ℕ × ℕ)) {x y : Entry} → x ≡ entryAt 0 row → x ≡ y → otherThan byte y (lastEntry row) ≡ otherEntry byte row
@@ -98,10 +98,10 @@ gap-by f words n {q = q} e a b =
     ∙ ap (λ (r : ℕ). record { previous = getD (recordAt f words (leaf-place n)) 2 0; next = r }) (b ∙ ap (λ (y : Place). getD (recordAt f words y) 3 0) e)
 
 pub out-by : (f : Frame) (words : List ℕ) (upper up : Up) (leaf : ℕ) {cut : Cut} {gap : Gap} → cut ≡ cutOf f words upper up → gap ≡ gapOf f words (leaf / 8)
-    → Out cut (leaf / 8) gap ≡ pointPlan f words (point.Holds upper up leaf)
+    → Take cut (leaf / 8) gap ≡ pointPlan f words (point.Holds upper up leaf)
 unfolding pointPlan
 out-by f words upper up leaf {cut} {gap} p q =
-    ap (λ (x : Cut). Out x (leaf / 8) gap) p ∙ ap (λ (g : Gap). Out (cutOf f words upper up) (leaf / 8) g) q
+    ap (λ (x : Cut). Take x (leaf / 8) gap) p ∙ ap (λ (g : Gap). Take (cutOf f words upper up) (leaf / 8) g) q
 
 -- ---- the plan
 module _ (f : Frame) (words keys tag : List ℕ) {root : ℕ} (e : root ≡ rootWord words) where

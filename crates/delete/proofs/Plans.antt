@@ -11,11 +11,11 @@ use lib.ListN.{length, getD}
 use lib.Dec.{leb, ltb}
 use Rattle.lists.specs.Scan.{choose, all, atMost}
 use Rattle.lists.proofs.Tests.{and-both}
-use Rattle.frames.specs.Kind.{childrenOf, markOf}
+use Rattle.frames.specs.Kind.{childrenOf, markOf, before}
 use Rattle.frames.specs.Frame.{rootWord}
 use Rattle.frames.specs.Place.{refOf, inPool, recordAt}
 use Rattle.frames.specs.declared.frame.Frame.{Frame}
-use Rattle.frames.proofs.KindTable.{before, kind-rules}
+use Rattle.frames.proofs.KindTable.{kind-rules}
 use Rattle.frames.proofs.Places.{inner-kind}
 use Rattle.records.specs.Row.{rowAt}
 use Rattle.records.specs.View.{Held, places}
@@ -163,7 +163,7 @@ pub record OutFits (f : Frame) (words keys tag : List ℕ) (t : Tree Held) (link
   pub cut-fits : CutFits f words keys (store t []) links size cut upper up (root t)
 
 abbrev pub PlanFits : Frame → (words keys tag : List ℕ) → Tree Held → Links → ℕ → Plan → Type 0
-PlanFits f words keys tag t links size (plan.Out cut n gap) = OutFits f words keys tag t links size cut n gap
+PlanFits f words keys tag t links size (plan.Take cut n gap) = OutFits f words keys tag t links size cut n gap
 PlanFits f words keys tag t links size plan.Missing = lookup tag (contents t) ≡ none
 PlanFits f words keys tag t links size plan.Broken = ⊥
 

@@ -7,7 +7,7 @@ use mathlib.Core.Bool.{true}
 use native.Mathlib.Omega.{arith}
 use lib.ListN.{length}
 use Rattle.lists.specs.Scan.{all, atMost}
-use Rattle.frames.specs.Frame.{rootWord}
+use Rattle.frames.specs.Frame.{rootWord, frame}
 use Rattle.frames.specs.Place.{inPool}
 use Rattle.frames.specs.declared.frame.Frame.{Frame}
 use Rattle.records.specs.View.{Held}
@@ -21,16 +21,16 @@ use Rattle.view.specs.Links.{linksOf}
 use Rattle.view.proofs.Links.{used-leaf}
 use Rattle.view.proofs.Chains.{link-in-pool}
 use Rattle.reading.specs.Shown.{Shown}
-use Rattle.whole.specs.Sound.{frame, Sound}
+use Rattle.whole.specs.Sound.{Sound}
 use Rattle.pointed.proofs.Sounds.{sound-shown}
 use Rattle.writes.specs.declared.leaf_node.Gap.{Gap}
 use Rattle.states.specs.State.{State}
 use Rattle.states.proofs.Steps.{state-pool}
 use Rattle.states.proofs.Sounds.{sound-state}
 use Rattle.delete.specs.declared.plan.Cut.{Cut}
-use Rattle.delete.specs.declared.plan.Plan.the-variants.{Out}
+use Rattle.delete.specs.declared.plan.Plan.the-variants.{Take}
 use Rattle.delete.specs.Plan.{gapOf, planOf}
-use Rattle.delete.specs.Apply.{OutReady}
+use Rattle.delete.specs.Apply.{TakeReady}
 use Rattle.delete.proofs.Cuts.{stayHome}
 use Rattle.delete.proofs.Neighbours.{ends-used}
 use Rattle.delete.proofs.Grounds.{SoundFits, sound-fits}
@@ -45,7 +45,7 @@ module _ (words keys tag : List ℕ) (cut : Cut) (n : ℕ) (gap : Gap) where
   f = frame words
 
   ready-of : (d : Option (Tree Held)) → Shown f words keys d → State f words keys (store-of d) (linksOf f words) (rootWord words) (length (held d))
-      → SoundFits words keys tag d (Out cut n gap) → OutReady f words cut n gap
+      → SoundFits words keys tag d (Take cut n gap) → TakeReady f words cut n gap
   ready-of none shown s h = absurd h
   ready-of (some t) shown s o =
       let pool : inPool f (leaf-place n) ≡ true = state-pool s (leaf-place n) (subst Used (sym (o .leaf-is)) tt) in
@@ -61,7 +61,7 @@ module _ (words keys tag : List ℕ) (cut : Cut) (n : ℕ) (gap : Gap) where
         counted = omega (arith, s .count-is, cut-count t (shown .good) stayHome tag (o .held) (o .found));
       }
 
-pub delete-ready : {words keys : List ℕ} → Sound words keys → (tag : List ℕ) → all (atMost 255) tag ≡ true → (cut : Cut) (n : ℕ) (gap : Gap) → planOf (frame words) words keys tag ≡ Out cut n gap
-    → OutReady (frame words) words cut n gap
+pub delete-ready : {words keys : List ℕ} → Sound words keys → (tag : List ℕ) → all (atMost 255) tag ≡ true → (cut : Cut) (n : ℕ) (gap : Gap) → planOf (frame words) words keys tag ≡ Take cut n gap
+    → TakeReady (frame words) words cut n gap
 delete-ready {words} {keys} s tag bytes cut n gap e =
     ready-of words keys tag cut n gap (s .tree) (sound-shown s) (sound-state s) (subst (SoundFits words keys tag (s .tree)) e (sound-fits tag bytes s))

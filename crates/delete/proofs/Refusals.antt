@@ -3,29 +3,29 @@ use Prim.Native.Nat.{ℕ}
 use mathlib.Core.Path.{_≡_, refl}
 use mathlib.Core.Logic.{_≢_}
 use mathlib.Core.List.{List}
-use Rattle.frames.specs.Frame.{trailerOf, frameOf}
+use Rattle.frames.specs.Frame.{frame}
 use Rattle.frames.specs.declared.frame.Frame.{Frame}
 use Rattle.whole.specs.Check.{checkOf}
 use Rattle.whole.specs.declared.check.Checked.{Checked}
 use Rattle.whole.specs.declared.check.Checked.the-variants as checked
 use Rattle.delete.specs.declared.plan.Plan.{Plan}
-use Rattle.delete.specs.declared.plan.Plan.the-variants.{Out, Missing, Broken}
+use Rattle.delete.specs.declared.plan.Plan.the-variants.{Take, Missing, Broken}
 use Rattle.delete.specs.Answer.{numberOf}
 use Rattle.delete.specs.Plan.{planOf}
-use Rattle.delete.specs.Delete.{Left, planned, deleteSound, deleteBy, deleteChecked, deleteOf}
+use Rattle.delete.specs.Delete.{Out, planned, deleteSound, deleteBy, deleteChecked, deleteOf}
 
-abbrev Keeps : (words keys : List ℕ) → Left → Type 0
+abbrev Keeps : (words keys : List ℕ) → Out → Type 0
 Keeps words keys r = numberOf (r .answer) ≢ 0 → (r .words ≡ words) × (r .keys ≡ keys)
 
 planned-keeps : (f : Frame) (words keys scratch : List ℕ) (p : Plan) → Keeps words keys (planned f words keys scratch p)
-planned-keeps f words keys scratch (Out cut n gap) h = absurd (h refl)
+planned-keeps f words keys scratch (Take cut n gap) h = absurd (h refl)
 planned-keeps f words keys scratch Missing h = (refl, refl)
 planned-keeps f words keys scratch Broken h = (refl, refl)
 
 checked-keeps : (words keys scratch tag : List ℕ) (c : Checked) → Keeps words keys (deleteBy words keys scratch tag c)
 unfolding deleteSound
 checked-keeps words keys scratch tag checked.Sound h =
-    planned-keeps (frameOf (trailerOf words)) words keys scratch (planOf (frameOf (trailerOf words)) words keys tag) h
+    planned-keeps (frame words) words keys scratch (planOf (frame words) words keys tag) h
 checked-keeps words keys scratch tag checked.Damaged h = (refl, refl)
 checked-keeps words keys scratch tag checked.ShortScratch h = (refl, refl)
 

@@ -7,7 +7,7 @@ use mathlib.Core.Bool.{true}
 use native.Mathlib.Omega.{arith}
 use lib.ListN.{length}
 use Rattle.lists.specs.Scan.{all, atMost}
-use Rattle.frames.specs.Frame.{FrameOf, rootWord, countWord}
+use Rattle.frames.specs.Frame.{FrameOf, rootWord, countWord, frame}
 use Rattle.frames.specs.Place.{inPool}
 use Rattle.frames.specs.declared.frame.Frame.{Frame}
 use Rattle.records.specs.View.{Held}
@@ -27,7 +27,7 @@ use Rattle.art.proofs.Calls.{call-once}
 use Rattle.pools.specs.Link.{setTrailer}
 use Rattle.view.specs.Links.{UsedOrEnd, linksOf}
 use Rattle.reading.specs.Shown.{Shown}
-use Rattle.whole.specs.Sound.{frame, Rooted, Sound}
+use Rattle.whole.specs.Sound.{Rooted, Sound}
 use Rattle.pointed.proofs.Sounds.{sound-shown}
 use Rattle.pointed.proofs.Inners.{leaf-stays, leaf-first}
 use Rattle.pointed.proofs.Neighbours.{numberOf, numbered}
@@ -38,7 +38,7 @@ use Rattle.states.proofs.Steps.{state-pool, state-leaf-out, state-count}
 use Rattle.states.proofs.Standing.{kept-end}
 use Rattle.states.proofs.Sounds.{sound-state, state-sound}
 use Rattle.delete.specs.declared.plan.Cut.{Cut}
-use Rattle.delete.specs.declared.plan.Plan.the-variants.{Out}
+use Rattle.delete.specs.declared.plan.Plan.the-variants.{Take}
 use Rattle.delete.specs.Plan.{planOf}
 use Rattle.delete.specs.Apply.{pruned, goneWords}
 use Rattle.delete.proofs.Cuts.{rootRef}
@@ -129,7 +129,7 @@ module _ (words keys tag : List ℕ) (cut : Cut) (n : ℕ) (gap : Gap) (t : Tree
   gone-held : FrameOf f (goneWords f cut n gap words) (keyOut f n keys) × (s′ : Sound (goneWords f cut n gap words) (keyOut f n keys)) × (held (s′ .tree) ≡ leave tag (contents t))
   gone-held = (gone .frame, gone-sound .0, ap held (gone-sound .1) ∙ change-held t (shown .good) (λ a. none) home tag)
 
-module _ {words keys : List ℕ} (s : Sound words keys) (tag : List ℕ) (bytes : all (atMost 255) tag ≡ true) (cut : Cut) (n : ℕ) (gap : Gap) (e : planOf (frame words) words keys tag ≡ Out cut n gap) where
+module _ {words keys : List ℕ} (s : Sound words keys) (tag : List ℕ) (bytes : all (atMost 255) tag ≡ true) (cut : Cut) (n : ℕ) (gap : Gap) (e : planOf (frame words) words keys tag ≡ Take cut n gap) where
   abbrev now : List ℕ
   now = goneWords (frame words) cut n gap words
 
@@ -137,7 +137,7 @@ module _ {words keys : List ℕ} (s : Sound words keys) (tag : List ℕ) (bytes 
   left-sound = go (s .tree) (sound-shown s) (sound-state s) (subst (SoundFits words keys tag (s .tree)) e (sound-fits tag bytes s))
     where
       go : (d : Option (Tree Held)) → Shown (frame words) words keys d → State (frame words) words keys (art.store-of d) (linksOf (frame words) words) (rootWord words) (length (held d))
-          → SoundFits words keys tag d (Out cut n gap)
+          → SoundFits words keys tag d (Take cut n gap)
           → FrameOf (frame words) now (keyOut (frame words) n keys) × (s′ : Sound now (keyOut (frame words) n keys)) × (held (s′ .tree) ≡ leave tag (held d))
       go none shown st h = absurd h
       go (some t) shown st o = gone-held words keys tag cut n gap t shown st o

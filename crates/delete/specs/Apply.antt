@@ -26,6 +26,7 @@ joinedAt f x (leaf-place n) byte words = words
 joinedAt f x (inner-place k n) byte words =
     prefixedAt f (inner-place k n) (mergeOf (prefixAt (f .form) (recordAt f words x)) byte (prefixAt (f .form) (recordAt f words (inner-place k n)))) words
 
+-- and the record is freed
 unfoldable pub merged : Frame → (x child : Place) (byte : ℕ) → List ℕ → List ℕ
 merged f x child byte words = clearAt f x (joinedAt f x child byte words)
 
@@ -33,6 +34,7 @@ merged f x child byte words = clearAt f x (joinedAt f x child byte words)
 unfoldable pub shrunk : Frame → (old new : Place) (byte : ℕ) → List ℕ → List ℕ
 shrunk f old new byte words = clearAt f old (dropAt f old new byte words)
 
+-- the tree without the leaf
 unfoldable pub pruned : Frame → Cut → List ℕ → List ℕ
 pruned f Root words = setTrailer 11 0 words
 pruned f (Stay ref byte) words = removeAt f (placeAt ref) byte words
@@ -44,16 +46,19 @@ unfoldable pub goneWords : Frame → Cut → ℕ → Gap → List ℕ → List �
 goneWords f cut n gap words = setTrailer 14 (countWord words - 1) (leafOut f n (gap .previous) (gap .next) (pruned f cut words))
 
 -- ── what must hold ──
+-- a leaf, or a record that obeys its rule
 abbrev pub JoinReady : Frame → List ℕ → Place → Type 0
 JoinReady f words (leaf-place n) = Unit {0}
 JoinReady f words (inner-place k n) = InnerHere f words (inner-place k n)
 
+-- for a merge; the record above has a child for its byte where it is written
 pub record MergeReady (f : Frame) (words : List ℕ) (upper : Up) (ref child byte : ℕ) : Type 0 where
   pub here : InnerHere f words (placeAt ref)
   pub child-ready : JoinReady f words (placeAt child)
   pub low : byte < 256
   pub above : UpThere f (merged f (placeAt ref) (placeAt child) byte words) upper
 
+-- for a move into a smaller record
 pub record ShrinkReady (f : Frame) (words : List ℕ) (upper : Up) (old new byte : ℕ) : Type 0 where
   pub drops : Drops f words (placeAt old) (placeAt new) byte
   pub above : UpThere f (shrunk f (placeAt old) (placeAt new) byte words) upper
@@ -64,7 +69,8 @@ CutReady f words (Stay ref byte) = HasChild f words (placeAt ref) byte
 CutReady f words (Shrink upper old new byte) = ShrinkReady f words upper old new byte
 CutReady f words (Merge upper ref child byte) = MergeReady f words upper ref child byte
 
-pub record OutReady (f : Frame) (words : List ℕ) (cut : Cut) (n : ℕ) (gap : Gap) : Type 0 where
+-- for all of it: the leaf is in the pool, its neighbours are leaves or ends, and the count is not 0
+pub record TakeReady (f : Frame) (words : List ℕ) (cut : Cut) (n : ℕ) (gap : Gap) : Type 0 where
   pub cut-ready : CutReady f words cut
   pub pool : inPool f (leaf-place n) ≡ true
   pub before : LeafOrEnd f (gap .previous)

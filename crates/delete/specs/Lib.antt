@@ -2,3 +2,4 @@ pub mod Answer
 pub mod Plan
 pub mod Apply
 pub mod Delete
+pub mod Meets

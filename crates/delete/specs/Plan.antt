@@ -22,7 +22,7 @@ use Rattle.writes.specs.declared.leaf_node.Gap.{Gap}
 use Rattle.delete.specs.declared.plan.Cut.{Cut}
 use Rattle.delete.specs.declared.plan.Cut.the-variants.{Root, Stay, Shrink, Merge}
 use Rattle.delete.specs.declared.plan.Plan.{Plan}
-use Rattle.delete.specs.declared.plan.Plan.the-variants.{Out, Missing, Broken}
+use Rattle.delete.specs.declared.plan.Plan.the-variants.{Take, Missing, Broken}
 
 -- ── the record above ──
 -- of two children the one that is not for the byte
@@ -30,6 +30,7 @@ abbrev pub otherThan : ℕ → Entry → Entry → Entry
 otherThan byte (Child b r) last = choose (eqb b byte) last (Child b r)
 otherThan byte Nothing last = Nothing
 
+-- of a row of two
 unfoldable pub otherEntry : ℕ → List (ℕ × ℕ) → Entry
 otherEntry byte row = otherThan byte (entryAt 0 row) (lastEntry row)
 
@@ -44,12 +45,14 @@ shrinkCut f words upper ref byte =
     let k = ref % 8 - 1 in
     choose (ltb (lowestFree f words k) (getD (f .caps) k 0)) (Shrink upper ref (lowestFree f words k * 8 + k) byte) (Stay ref byte)
 
+-- the record above the leaf, with one child less: a last one merges, at or below its mark the record shrinks, else it stays
 unfoldable pub cutUnder : Frame → List ℕ → Up → ℕ → ℕ → Cut
 cutUnder f words upper ref byte =
     let rec = recordAt f words (placeAt ref) in
     choose (leb (getD rec 1 0) 2) (mergeCut upper ref byte (otherEntry byte (rowAt (f .form) (ref % 8) rec)))
     (choose (leb (getD rec 1 0) (markOf (ref % 8) + 1)) (shrinkCut f words upper ref byte) (Stay ref byte))
 
+-- a leaf with nothing above it is the root
 abbrev pub cutOf : Frame → List ℕ → Up → Up → Cut
 cutOf f words upper Top = Root
 cutOf f words upper (Via ref byte) = cutUnder f words upper ref byte
@@ -59,12 +62,14 @@ cutOf f words upper (Via ref byte) = cutUnder f words upper ref byte
 abbrev pub gapOf : Frame → List ℕ → ℕ → Gap
 gapOf f words n = record { previous = getD (recordAt f words (leaf-place n)) 2 0; next = getD (recordAt f words (leaf-place n)) 3 0 }
 
+-- by the point: held, or not
 unfoldable pub pointPlan : Frame → List ℕ → Point → Plan
-pointPlan f words (point.Holds upper up leaf) = Out (cutOf f words upper up) (leaf / 8) (gapOf f words (leaf / 8))
+pointPlan f words (point.Holds upper up leaf) = Take (cutOf f words upper up) (leaf / 8) (gapOf f words (leaf / 8))
 pointPlan f words point.Clash = Missing
 pointPlan f words (point.Into up ref byte) = Missing
 pointPlan f words (point.Fork up ref leaf d c) = Missing
 pointPlan f words point.Broken = Broken
 
+-- an empty directory holds no tag
 unfoldable pub planOf : Frame → (words keys tag : List ℕ) → Plan
 planOf f words keys tag = choose (eqb (rootWord words) 0) Missing (pointPlan f words (pointOf f words keys tag (rootWord words)))

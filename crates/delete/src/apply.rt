@@ -6,7 +6,7 @@ ghost use Rattle.frames.specs.Place.{placeAt};
 ghost use Rattle.points.specs.There.{InnerHere};
 ghost use Rattle.writes.specs.Leaf.{keyOut};
 ghost use Rattle.writes.specs.Above.{linkUp};
-ghost use Rattle.delete.specs.Apply.{joinedAt, JoinReady, merged, MergeReady, shrunk, ShrinkReady, pruned, CutReady, goneWords, OutReady};
+ghost use Rattle.delete.specs.Apply.{joinedAt, JoinReady, merged, MergeReady, shrunk, ShrinkReady, pruned, CutReady, goneWords, TakeReady};
 use super::plan::Cut;
 use frames::frame;
 use frames::frame::Frame;
@@ -79,7 +79,7 @@ fn prune(words: &mut [u32], keys: &[u8], f: Frame, cut: Cut)
 
 // All of it: the tree, the list and the leaf with its key bytes, the tag count.
 pub fn apply_out(words: &mut [u32], keys: &mut [u8], f: Frame, cut: Cut, n: u32, gap: Gap)
-    requires { ⌜ FrameOf f (now words) (now keys) × OutReady f (now words) cut n gap ⌝ }
+    requires { ⌜ FrameOf f (now words) (now keys) × TakeReady f (now words) cut n gap ⌝ }
     ensures { λ _. ⌜ (now (words .exit) ≡ goneWords f cut n gap (now (words .entry))) × (now (keys .exit) ≡ keyOut f n (now (keys .entry))) ⌝ }
 {
     let count = frame::trailer_word(words, 14) - 1;

@@ -4,7 +4,7 @@ ghost use mathlib.Core.List.{List};
 ghost use Prim.Native.Nat.{ℕ};
 ghost use Rattle.frames.specs.Frame.{FrameOf};
 ghost use Rattle.whole.specs.Sound.{Sound};
-ghost use Rattle.delete.specs.Delete.{left, planned, PlanReady, deleteSound, deleteOf};
+ghost use Rattle.delete.specs.Delete.{out, planned, PlanReady, deleteSound, deleteOf};
 use super::answer::Deleted;
 use super::apply;
 use super::plan;
@@ -18,10 +18,10 @@ use whole::check::Checked;
 // What the plan says. Scratch, whatever it is, stays as it is.
 fn carry_out(words: &mut [u32], keys: &mut [u8], f: Frame, p: Plan) -> Deleted
     requires { ⌜ FrameOf f (now words) (now keys) × PlanReady f (now words) p ⌝ }
-    ensures { λ r. ⌜ ((s : List ℕ) → left r (now (words .exit)) (now (keys .exit)) s ≡ planned f (now (words .entry)) (now (keys .entry)) s p) ⌝ }
+    ensures { λ r. ⌜ ((s : List ℕ) → out r (now (words .exit)) (now (keys .exit)) s ≡ planned f (now (words .entry)) (now (keys .entry)) s p) ⌝ }
 {
     match p {
-        Plan::Out(cut, n, gap) => {
+        Plan::Take(cut, n, gap) => {
             let old = places::total_at(words, keys, f, n);
             apply::apply_out(words, keys, f, cut, n, gap);
             Deleted::Gone(old)
@@ -34,7 +34,7 @@ fn carry_out(words: &mut [u32], keys: &mut [u8], f: Frame, p: Plan) -> Deleted
 // On a sound block.
 fn delete_sound(words: &mut [u32], keys: &mut [u8], tag: &[u8]) -> Deleted
     requires { ⌜ Sound (now words) (now keys) ⌝ }
-    ensures { λ r. ⌜ ((s : List ℕ) → left r (now (words .exit)) (now (keys .exit)) s ≡ deleteSound (now (words .entry)) (now (keys .entry)) s (now (tag .entry))) ⌝ }
+    ensures { λ r. ⌜ ((s : List ℕ) → out r (now (words .exit)) (now (keys .exit)) s ≡ deleteSound (now (words .entry)) (now (keys .entry)) s (now (tag .entry))) ⌝ }
 {
     let f = frame::frame_at(words, keys);
     let p = plan::plan_delete(words, keys, f, tag);
@@ -43,7 +43,7 @@ fn delete_sound(words: &mut [u32], keys: &mut [u8], tag: &[u8]) -> Deleted
 
 // Takes a tag out.
 pub fn delete(words: &mut [u32], keys: &mut [u8], scratch: &mut [u8], tag: &[u8]) -> Deleted
-    ensures { λ r. ⌜ left r (now (words .exit)) (now (keys .exit)) (now (scratch .exit)) ≡ deleteOf (now (words .entry)) (now (keys .entry)) (now (scratch .entry)) (now (tag .entry)) ⌝ }
+    ensures { λ r. ⌜ out r (now (words .exit)) (now (keys .exit)) (now (scratch .exit)) ≡ deleteOf (now (words .entry)) (now (keys .entry)) (now (scratch .entry)) (now (tag .entry)) ⌝ }
 {
     let c = check::check(words, keys, scratch);
     match c {

@@ -33,7 +33,7 @@ pub enum Cut {
 
 // What delete does.
 pub enum Plan {
-    Out(Cut, u32, Gap), // the leaf by its number, and its neighbours
+    Take(Cut, u32, Gap), // the leaf by its number, and its neighbours
     Missing,
     Broken,
 }
@@ -128,7 +128,7 @@ fn point_plan(words: &[u32], keys: &[u8], f: Frame, tag: &[u8], p: Point) -> Pla
     match p {
         Point::Holds(upper, up, leaf) => {
             let cut = cut_of(words, keys, f, upper, up);
-            Plan::Out(cut, leaf / 8, gap_of(words, keys, f, leaf / 8))
+            Plan::Take(cut, leaf / 8, gap_of(words, keys, f, leaf / 8))
         }
         Point::Clash => Plan::Missing,
         Point::Into(_, _, _) => Plan::Missing,

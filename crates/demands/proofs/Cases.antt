@@ -10,7 +10,8 @@ use Rattle.lists.specs.Scan.{choose}
 use Rattle.frames.specs.Form.{formOf}
 use Rattle.whole.specs.Check as check-call
 use Rattle.whole.specs.Check.{checkOf}
-use Rattle.whole.specs.Sound.{frame, Sound}
+use Rattle.frames.specs.Frame.{frame}
+use Rattle.whole.specs.Sound.{Sound}
 use Rattle.whole.specs.declared.check.Checked.{Checked}
 use Rattle.whole.specs.declared.check.Checked.the-variants as checked
 use Rattle.whole.proofs.Sounds.{zero-sound}
@@ -83,18 +84,18 @@ module _ (words keys tag : List ℕ) (total : ℕ) (P : insert-call.Out → Type
         go false e = by-check (checkOf words keys scratch) (zero-sound words keys scratch) (ltb-false (formOf 1 .limit) (length tag) e)
 
 -- ── delete ──
-module _ (words keys tag : List ℕ) (P : delete-call.Left → Type 0) where
+module _ (words keys tag : List ℕ) (P : delete-call.Out → Type 0) where
   abbrev DeleteRefused : Type 0
-  DeleteRefused = (a : Deleted) (scratch : List ℕ) → deleteChange tag a ≡ nothing → P (delete-call.left a words keys scratch)
+  DeleteRefused = (a : Deleted) (scratch : List ℕ) → deleteChange tag a ≡ nothing → P (delete-call.out a words keys scratch)
 
   abbrev DeleteOut : Type 0
-  DeleteOut = (scratch : List ℕ) → Sound words keys → (cut : Cut) (n : ℕ) (gap : Gap) → delete-plan.planOf (frame words) words keys tag ≡ gone.Out cut n gap
-      → P (delete-call.planned (frame words) words keys scratch (gone.Out cut n gap))
+  DeleteOut = (scratch : List ℕ) → Sound words keys → (cut : Cut) (n : ℕ) (gap : Gap) → delete-plan.planOf (frame words) words keys tag ≡ gone.Take cut n gap
+      → P (delete-call.planned (frame words) words keys scratch (gone.Take cut n gap))
 
   module _ (refused : DeleteRefused) (out : DeleteOut) where
     by-delete-plan : (scratch : List ℕ) → Sound words keys → (p : delete-plans.Plan) → delete-plan.planOf (frame words) words keys tag ≡ p
         → P (delete-call.planned (frame words) words keys scratch p)
-    by-delete-plan scratch s (gone.Out cut n gap) e = out scratch s cut n gap e
+    by-delete-plan scratch s (gone.Take cut n gap) e = out scratch s cut n gap e
     by-delete-plan scratch s gone.Missing e = refused deleted.Missing scratch refl
     by-delete-plan scratch s gone.Broken e = refused deleted.Damaged scratch refl
 

@@ -13,7 +13,8 @@ use Rattle.art.specs.Puts.{put, alter, leave}
 use Rattle.art.specs.Deletes.{held}
 use Rattle.art.specs.Stores.{leaf-place}
 use Rattle.reading.specs.Answers.{Bytes}
-use Rattle.whole.specs.Sound.{frame, Sound}
+use Rattle.frames.specs.Frame.{frame}
+use Rattle.whole.specs.Sound.{Sound}
 use Rattle.writes.specs.Leaf.{keyIn, keyOut, totalAt}
 use Rattle.writes.specs.declared.leaf_node.Gap.{Gap}
 use Rattle.insert.specs.Plan as insert-plan
@@ -55,7 +56,7 @@ module _ {words keys : List ℕ} (s : Sound words keys) (tag : List ℕ) (bytes 
     over-frame total = sym (overs.over-fits s tag bytes leaf plan total .read)
 
   -- ── a tag that leaves ──
-  module _ {cut : Cut} {n : ℕ} {gap : Gap} (plan : delete-plan.planOf (frame words) words keys tag ≡ gone.Out cut n gap) where
+  module _ {cut : Cut} {n : ℕ} {gap : Gap} (plan : delete-plan.planOf (frame words) words keys tag ≡ gone.Take cut n gap) where
     pub delete-held : (a : Held) × (lookup tag (held (s .tree)) ≡ some a) × (a .total ≡ totalOf (recordAt (frame words) words (leaf-place n)))
     delete-held = let h = delete-answers.out-held s tag (bytes-all tag bytes) cut n gap plan in (h .0, h .1, h .3)
 

@@ -7,7 +7,7 @@ use mathlib.Core.Option.{Option, none, some}
 use mathlib.Core.Bool.{true}
 use native.Mathlib.Omega.{arith}
 use lib.ListN.{length}
-use Rattle.frames.specs.Frame.{rootWord}
+use Rattle.frames.specs.Frame.{rootWord, frame}
 use Rattle.frames.specs.Place.{placeAt, inPool}
 use Rattle.frames.proofs.Places.{place-ref}
 use Rattle.records.specs.View.{Held, cellOf}
@@ -25,7 +25,7 @@ use Rattle.art.proofs.Stores.{own}
 use Rattle.art.proofs.ReadBack.{some-inj, shown-once}
 use Rattle.art.proofs.Walks.{store-shows}
 use Rattle.reading.specs.Answers.{Bytes}
-use Rattle.whole.specs.Sound.{frame, Rooted, Sound}
+use Rattle.whole.specs.Sound.{Rooted, Sound}
 use Rattle.whole.proofs.Sounds.{used-pool}
 use Rattle.insert.specs.Answer as insert-answer
 use Rattle.insert.specs.Insert as insert-call

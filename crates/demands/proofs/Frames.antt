@@ -2,18 +2,18 @@
 use Prim.Native.Nat.{ℕ, _≤_}
 use mathlib.Core.Path.{_≡_, refl, sym, ap, subst, _∙_}
 use mathlib.Core.List.{List, [], _∷_}
-use mathlib.Core.Bool.{true}
 use lib.ListN.{length}
 use Rattle.frames.specs.Form.{formOf}
-use Rattle.frames.specs.Frame.{frameFits}
+use Rattle.frames.specs.Frame.{frame}
 use Rattle.frames.specs.declared.form.Form.{Form}
 use Rattle.reading.specs.Answers.{Bytes}
-use Rattle.whole.specs.Sound.{frame, Sound}
+use Rattle.whole.specs.Sound.{Sound}
 use Rattle.insert.specs.Insert as insert-call
 use Rattle.insert.proofs.Inserts.{one-form}
 use Rattle.delete.specs.Delete as delete-call
 use Rattle.demands.specs.Calls.{Call, start, search, prefix-search, minimum, maximum, next-leaf, leaf-facts, leaf-tag, check, first-at-or-after, insert, delete, Slices, run}
 use Rattle.demands.specs.Histories.{Block, Turn, lent, next, after-all, CallBytes, AllBytes}
+use Rattle.demands.specs.Frames.{FrameKept, NoStart, NoStarts}
 use Rattle.demands.proofs.Changes.{insert-sound, insert-frame, over-sound, over-frame, delete-sound, delete-frame}
 use Rattle.demands.proofs.Cases.{insert-cases, delete-cases}
 use Rattle.demands.proofs.KeyBytes.{step-bytes}
@@ -21,10 +21,6 @@ use Rattle.demands.proofs.KeyBytes.{step-bytes}
 -- there is one form
 pub frame-limit : {words keys : List ℕ} → Sound words keys → frame words .form .limit ≡ formOf 1 .limit
 frame-limit {words} {keys} s = ap (λ (g : Form). g .limit) (one-form words keys (s .fits))
-
--- the frame stays, and fits after where it did before
-abbrev pub FrameKept : (words keys words′ keys′ : List ℕ) → Type 0
-FrameKept words keys words′ keys′ = (frame words′ ≡ frame words) × (frameFits words keys ≡ true → frameFits words′ keys′ ≡ true)
 
 kept : (words keys : List ℕ) → FrameKept words keys words keys
 kept words keys = (refl, λ h. h)
@@ -44,21 +40,6 @@ delete-kept words keys scratch tag bytes =
     delete-cases words keys tag (λ o. FrameKept words keys (o .words) (o .keys)) (λ a r e. kept words keys)
     (λ r s cut n gap e. (delete-frame s tag bytes e, λ h. delete-sound s tag bytes e .0 .fits)) scratch
 
--- any call but start
-abbrev pub NoStart : Call → Type 0
-NoStart (start c) = ⊥
-NoStart (search t) = Unit {0}
-NoStart (prefix-search t) = Unit {0}
-NoStart minimum = Unit {0}
-NoStart maximum = Unit {0}
-NoStart (next-leaf n) = Unit {0}
-NoStart (leaf-facts n) = Unit {0}
-NoStart (leaf-tag n) = Unit {0}
-NoStart check = Unit {0}
-NoStart (first-at-or-after t) = Unit {0}
-NoStart (insert t total) = Unit {0}
-NoStart (delete t) = Unit {0}
-
 -- calls after start never change the frame, whatever the memory holds
 pub frame-kept : (c : Call) → NoStart c → CallBytes c → (s : Slices) → Bytes (s .keys) → FrameKept (s .words) (s .keys) (run c s .slices .words) (run c s .slices .keys)
 frame-kept (start c) h b s k = absurd h
@@ -75,10 +56,6 @@ frame-kept (insert t total) h b s k = insert-kept (s .words) (s .keys) (s .scrat
 frame-kept (delete t) h b s k = delete-kept (s .words) (s .keys) (s .scratch) t b
 
 -- ── any calls but start ──
-abbrev pub NoStarts : List Turn → Type 0
-NoStarts [] = Unit {0}
-NoStarts (t ∷ ts) = NoStart (t .call) × NoStarts ts
-
 pub frames-kept : (b : Block) → Bytes (b .keys) → (ts : List Turn) → NoStarts ts → AllBytes ts → FrameKept (b .words) (b .keys) (after-all b ts .words) (after-all b ts .keys)
 frames-kept b k [] n h = kept (b .words) (b .keys)
 frames-kept b k (t ∷ ts) n h =

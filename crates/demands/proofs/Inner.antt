@@ -12,7 +12,7 @@ use lib.Dec.{leb, ltb}
 use borrow.Author.Tests.{le-leb, lt-ltb, ltb-true, ltb-false}
 use Rattle.lists.specs.Scan.{choose, nonzero}
 use Rattle.lists.proofs.Tests.{both, and-both}
-use Rattle.frames.specs.Frame.{FrameOf}
+use Rattle.frames.specs.Frame.{FrameOf, frame}
 use Rattle.frames.specs.Place.{inPool}
 use Rattle.frames.specs.declared.frame.Frame.{Frame}
 use Rattle.frames.proofs.Places.{inner-kind}
@@ -32,7 +32,7 @@ use Rattle.art.proofs.Passes.{store-on}
 use Rattle.art.proofs.Facts.{used-inner}
 use Rattle.view.specs.Cells.{wordZero, kindAt, numberAt}
 use Rattle.view.proofs.Views.{cell-free, cell-used}
-use Rattle.whole.specs.Sound.{frame, Sound}
+use Rattle.whole.specs.Sound.{Sound}
 use Rattle.whole.proofs.Sounds.{used-pool}
 use Rattle.demands.specs.Histories.{totals}
 use Rattle.demands.specs.Drawn.{plain, usedBelow, usedOf, usedInner}

@@ -15,7 +15,7 @@ use Rattle.pools.specs.Start.{startFits, startOf}
 use Rattle.pools.specs.declared.start.Started.{Started}
 use Rattle.pools.specs.declared.start.Started.the-variants as started
 use Rattle.reading.specs.Answers.{Bytes}
-use Rattle.whole.specs.Sound.{frame}
+use Rattle.frames.specs.Frame.{frame}
 use Rattle.pointed.proofs.Points.{tag-bytes}
 use Rattle.writes.specs.Leaf.{keyOut}
 use Rattle.insert.proofs.Ready.{bytes-all}

@@ -13,4 +13,3 @@ pub mod Swaps
 pub mod Corollaries
 pub mod Tested
 pub mod Numbers
-mod Examples

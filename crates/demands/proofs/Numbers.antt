@@ -10,7 +10,7 @@ use lib.Dec.{eqb, ltb}
 use borrow.Author.Tests.{eq-eqb, ne-eqb, eqb-true, eqb-false, ltb-true, ltb-false}
 use Rattle.lists.specs.Scan.{choose}
 use Rattle.frames.specs.Form.{formOf}
-use Rattle.frames.specs.Frame.{frameFits}
+use Rattle.frames.specs.Frame.{frameFits, frame}
 use Rattle.frames.specs.Place.{placeAt, inPool, startAt, recordAt}
 use Rattle.frames.specs.declared.frame.Caps.{Caps}
 use Rattle.frames.specs.declared.frame.Frame.{Frame}
@@ -27,20 +27,20 @@ use Rattle.pools.specs.Start.{startFits, startOf}
 use Rattle.view.proofs.Starts as starts
 use Rattle.tree.specs.Answer.{foundNumber, factsNumber, leafFound}
 use Rattle.tree.specs.Arrive.{withFrame}
-use Rattle.tree.specs.Leaf.{leafState, nextOf, nextAt, nextFrom, nextLeafOf, factsFrom, factsOf}
+use Rattle.leaves.specs.Leaf.{leafState, nextOf, nextAt, nextFrom, nextLeafOf, factsFrom, factsOf}
 use Rattle.tree.specs.declared.answer.Found.{Found}
 use Rattle.tree.specs.declared.answer.Found.the-variants as found
 use Rattle.tree.specs.declared.answer.Facts.{Facts}
-use Rattle.tree.specs.declared.leaf.LeafState.{LeafState}
-use Rattle.tree.specs.declared.leaf.LeafState.the-variants.{Good, Broken, NoLeaf}
+use Rattle.leaves.specs.declared.LeafState.{LeafState}
+use Rattle.leaves.specs.declared.LeafState.the-variants.{Good, Broken, NoLeaf}
 use Rattle.reading.specs.Answers.{Bytes, answerOf}
 use Rattle.whole.specs.Check as check-call
 use Rattle.whole.specs.Check.{checkOf}
-use Rattle.whole.specs.Sound.{frame, Sound}
+use Rattle.whole.specs.Sound.{Sound}
 use Rattle.whole.specs.declared.check.Checked.{Checked}
 use Rattle.whole.specs.declared.check.Checked.the-variants as checked
 use Rattle.range.specs.Range as after-call
-use Rattle.range.specs.Range.{afterOf, afterCheck}
+use Rattle.range.specs.Range.{afterOf, afterCheck, afterIs}
 use Rattle.range.specs.declared.After.{After}
 use Rattle.pointed.proofs.Sounds.{sound-shown}
 use Rattle.insert.specs.Answer as insert-answer
@@ -49,7 +49,7 @@ use Rattle.insert.specs.Plan as insert-plan
 use Rattle.insert.specs.declared.answer.Inserted.{Inserted}
 use Rattle.insert.specs.declared.plan.Plan.{Plan}
 use Rattle.insert.specs.declared.plan.Plan.the-variants as new
-use Rattle.insert.proofs.Afters.{afterIs, after-shown}
+use Rattle.insert.proofs.Afters.{after-shown}
 use Rattle.insert.proofs.Ready.{bytes-all}
 use Rattle.insert.specs.Room as room
 use Rattle.insert.proofs.Refusals as refusals
@@ -162,7 +162,7 @@ module _ (s : Slices) (t : Tag) (bytes : Bytes t) (p : Passed s) where
   delete-done h e = go (delete-plan.planOf (frame (s .words)) (s .words) (s .keys) t) refl
     where
       go : (q : delete-plans.Plan) → delete-plan.planOf (frame (s .words)) (s .words) (s .keys) t ≡ q → delete-answer.numberOf (delete-call.deleteOf (s .words) (s .keys) (s .scratch) t .answer) ≡ 0
-      go (gone.Out cut n gap) i = delete-number (gone.Out cut n gap) i
+      go (gone.Take cut n gap) i = delete-number (gone.Take cut n gap) i
       go gone.Missing i = let z : none ≡ some h = sym (delete-answers.missing-held (p .sound) t (bytes-all t bytes) i) ∙ e in let y : _≡_ {A = ℕ} 0 1 = cc in absurd (omega arith)
       go gone.Broken i = absurd (delete-answers.never-broken (p .sound) t (bytes-all t bytes) i)
 

@@ -23,7 +23,7 @@ only (leaf-tag n) s o p = p .1 ∙ ap (λ r. read (tag r) s) (p .2)
 only check s o p = p .1 ∙ ap (λ (x : check-call.Answer). outcome (checked (x .result)) (s .words) (s .keys) (x .scratch)) (p .2)
 only (first-at-or-after t) s o p = p .1 ∙ ap (λ (x : after-call.Answer). outcome (after (x .result)) (s .words) (s .keys) (x .scratch)) (p .2)
 only (insert t total) s o p = p .1 ∙ ap (λ (x : insert-call.Out). outcome (inserted (x .answer)) (x .words) (x .keys) (x .scratch)) (p .2)
-only (delete t) s o p = p .1 ∙ ap (λ (x : delete-call.Left). outcome (deleted (x .answer)) (x .words) (x .keys) (x .scratch)) (p .2)
+only (delete t) s o p = p .1 ∙ ap (λ (x : delete-call.Out). outcome (deleted (x .answer)) (x .words) (x .keys) (x .scratch)) (p .2)
 
 -- of every public call two outcomes that its promise allows are equal
 pub one-outcome : (c : Call) (s : Slices) (o o′ : Outcome) → Promise c s o → Promise c s o′ → o ≡ o′

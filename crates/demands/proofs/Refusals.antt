@@ -10,13 +10,12 @@ use lib.Dec.{leb, ltb}
 use borrow.Author.Tests.{le-leb, lt-leb, ltb-true, ltb-false}
 use Rattle.lists.specs.Scan.{choose}
 use Rattle.frames.specs.Form.{formOf}
-use Rattle.frames.specs.Frame.{frameFits}
+use Rattle.frames.specs.Frame.{frameFits, frame}
 use Rattle.frames.specs.declared.frame.Caps.{Caps}
 use Rattle.frames.specs.declared.frame.Frame.{Frame}
 use Rattle.art.proofs.ReadBack.{some-inj}
 use Rattle.pools.specs.Start as start-call
 use Rattle.pools.specs.Start.{startFits, startOf}
-use Rattle.whole.specs.Sound.{frame}
 use Rattle.whole.specs.Marks.{placesIn}
 use Rattle.whole.specs.Check as check-call
 use Rattle.whole.specs.Check.{checkOf, cleared, wholeBy}
@@ -82,7 +81,7 @@ delete-kept words keys scratch tag =
 
 module _ (words keys tag : List ℕ) where
   delete-scratch-planned : (f : Frame) (scratch : List ℕ) (p : delete-plans.Plan) → delete-call.planned f words keys scratch p .scratch ≡ scratch
-  delete-scratch-planned f scratch (gone.Out cut n gap) = refl
+  delete-scratch-planned f scratch (gone.Take cut n gap) = refl
   delete-scratch-planned f scratch gone.Missing = refl
   delete-scratch-planned f scratch gone.Broken = refl
 

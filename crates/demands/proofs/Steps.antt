@@ -28,7 +28,8 @@ use Rattle.view.specs.Empty.{Empty}
 use Rattle.view.specs.Links.{linksOf}
 use Rattle.view.proofs.Starts.{start-refused, start-done, start-empty}
 use Rattle.reading.specs.Answers.{Bytes}
-use Rattle.whole.specs.Sound.{frame, Sound}
+use Rattle.frames.specs.Frame.{frame}
+use Rattle.whole.specs.Sound.{Sound}
 use Rattle.states.specs.State.{State}
 use Rattle.states.proofs.Sounds.{state-sound}
 use Rattle.insert.specs.Insert as insert-call

@@ -8,11 +8,11 @@ use lib.Dec.{ltb}
 use borrow.Author.Tests.{le-ltb, lt-ltb, ltb-true, ltb-false}
 use Rattle.lists.specs.Scan.{choose}
 use Rattle.frames.specs.Form.{formOf}
-use Rattle.frames.specs.Frame.{frameFits}
+use Rattle.frames.specs.Frame.{frameFits, frame}
 use Rattle.art.proofs.Deletes.{false-true}
 use Rattle.whole.specs.Marks.{placesIn}
 use Rattle.whole.specs.Check.{checkOf, wholeBy, wholeOf}
-use Rattle.whole.specs.Sound.{frame, Sound}
+use Rattle.whole.specs.Sound.{Sound}
 use Rattle.whole.specs.declared.check.Checked.{Checked}
 use Rattle.whole.specs.declared.check.Checked.the-variants as checked
 use Rattle.whole.proofs.Sounds.{whole-sound, sound-whole}

@@ -9,7 +9,7 @@ use Rattle.pools.specs.declared.start.Started.{Started}
 use Rattle.tree.specs.Answer.{foundNumber, factsNumber}
 use Rattle.tree.specs.Walk.{searchOf, prefixSearchOf}
 use Rattle.tree.specs.Edge.{minimumOf, maximumOf}
-use Rattle.tree.specs.Leaf.{nextLeafOf, factsOf, tagOf}
+use Rattle.leaves.specs.Leaf.{nextLeafOf, factsOf, tagOf}
 use Rattle.tree.specs.declared.answer.Found.{Found}
 use Rattle.tree.specs.declared.answer.Facts.{Facts}
 use Rattle.whole.specs.Check as check-call
@@ -96,7 +96,7 @@ Promise (first-at-or-after t) s o = (r : After) × (o ≡ outcome (after r) (s .
 Promise (insert t total) s o = (r : Inserted) × (o ≡ outcome (inserted r) (o .slices .words) (o .slices .keys) (o .slices .scratch))
     × (insert-call.out r (o .slices .words) (o .slices .keys) (o .slices .scratch) ≡ insert-call.insertOf (s .words) (s .keys) (s .scratch) t total)
 Promise (delete t) s o = (r : Deleted) × (o ≡ outcome (deleted r) (o .slices .words) (o .slices .keys) (o .slices .scratch))
-    × (delete-call.left r (o .slices .words) (o .slices .keys) (o .slices .scratch) ≡ delete-call.deleteOf (s .words) (s .keys) (s .scratch) t)
+    × (delete-call.out r (o .slices .words) (o .slices .keys) (o .slices .scratch) ≡ delete-call.deleteOf (s .words) (s .keys) (s .scratch) t)
 
 -- ── the one outcome ──
 abbrev pub run : Call → Slices → Outcome

@@ -11,7 +11,7 @@ use Rattle.art.specs.Drawings.{Drawing}
 use Rattle.art.specs.Stores.{inner-place}
 use Rattle.art.specs.Facts.{drawn}
 use Rattle.view.specs.Cells.{wordZero}
-use Rattle.whole.specs.Sound.{frame}
+use Rattle.frames.specs.Frame.{frame}
 
 -- the tree with the totals alone at its leaves
 abbrev mutual

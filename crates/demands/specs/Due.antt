@@ -8,7 +8,7 @@ use mathlib.Core.Bool.{Bool, true, false, _&&_}
 use lib.ListN.{length, getD}
 use lib.Dec.{eqb}
 use Rattle.frames.specs.Form.{formOf}
-use Rattle.frames.specs.Frame.{frameFits}
+use Rattle.frames.specs.Frame.{frameFits, frame}
 use Rattle.frames.specs.Place.{placeAt, inPool, recordAt}
 use Rattle.frames.specs.declared.frame.Caps.{Caps}
 use Rattle.frames.specs.declared.frame.Frame.{Frame}
@@ -22,23 +22,27 @@ use Rattle.art.specs.Stores.{Place, leaf-place, inner-place}
 use Rattle.art.specs.Points.{store-of}
 use Rattle.pools.specs.Start.{startFits}
 use Rattle.whole.specs.Marks.{placesIn}
-use Rattle.whole.specs.Sound.{frame, Sound}
+use Rattle.whole.specs.Sound.{Sound}
 use Rattle.insert.specs.Room.{LeavesFull, Lacking}
 use Rattle.demands.specs.Calls.{Call, start, search, prefix-search, minimum, maximum, next-leaf, leaf-facts, leaf-tag, check, first-at-or-after, insert, delete, Slices}
 
 -- ── frame, scratch, whole check ──
+-- 6: the frame does not fit
 abbrev pub Unframed : Slices → Type 0
 Unframed s = frameFits (s .words) (s .keys) ≡ false
 
+-- 7: it fits, and scratch has fewer bytes than the block has places
 pub record Short (s : Slices) : Type 0 where
   pub fits : frameFits (s .words) (s .keys) ≡ true
   pub less : length (s .scratch) < placesIn (frame (s .words))
 
+-- 6: scratch is long enough, and the block is not sound
 pub record Unsound (s : Slices) : Type 0 where
   pub fits : frameFits (s .words) (s .keys) ≡ true
   pub room : placesIn (frame (s .words)) ≤ length (s .scratch)
   pub not-sound : ¬ Sound (s .words) (s .keys)
 
+-- the check finds nothing wrong
 pub record Passed (s : Slices) : Type 0 where
   pub room : placesIn (frame (s .words)) ≤ length (s .scratch)
   pub sound : Sound (s .words) (s .keys)
@@ -54,6 +58,7 @@ pub record InUse (s : Slices) (n : ℕ) : Type 0 where
   pub pool : inPool (frame (s .words)) (leaf-place n) ≡ true
   pub used : getD (recordAt (frame (s .words)) (s .words) (leaf-place n)) 0 0 ≢ 0
 
+-- it obeys its rule; its next; the leaf that its next names
 abbrev pub obeys : Slices → ℕ → Bool
 obeys s n = ruleAt (frame (s .words)) (s .words) (s .keys) (leaf-place n)
 

@@ -1,5 +1,6 @@
 pub mod Calls
 pub mod Histories
+pub mod Frames
 pub mod Scratch
 pub mod Drawn
 pub mod Story

@@ -6,10 +6,9 @@ use lib.ListN.{length}
 use lib.Dec.{leb}
 use Rattle.lists.specs.Scan.{choose}
 use Rattle.frames.specs.Form.{formOf}
-use Rattle.frames.specs.Frame.{frameFits}
+use Rattle.frames.specs.Frame.{frameFits, frame}
 use Rattle.whole.specs.Marks.{placesIn}
 use Rattle.whole.specs.Check.{cleared}
-use Rattle.whole.specs.Sound.{frame}
 use Rattle.demands.specs.Calls.{Call, start, search, prefix-search, minimum, maximum, next-leaf, leaf-facts, leaf-tag, check, first-at-or-after, insert, delete, Slices}
 
 -- the frame fits, and there is a byte for each record

@@ -4,11 +4,11 @@ use mathlib.Core.List.{List}
 use lib.ListN.{length}
 use lib.Dec.{eqb}
 use Rattle.lists.specs.Scan.{choose}
-use Rattle.frames.specs.Frame.{trailerOf, frameFits, frameOf}
+use Rattle.frames.specs.Frame.{frameFits, frame}
 use Rattle.pools.specs.Start.{Out, startNumber}
 use Rattle.frames.specs.declared.frame.Caps.{Caps}
 use Rattle.tree.specs.Answer.{foundNumber, foundLeaf, foundTotal, factsNumber, factsLength, factsTotal}
-use Rattle.tree.specs.Leaf.{tagOf}
+use Rattle.leaves.specs.Leaf.{tagOf}
 use Rattle.tree.specs.declared.answer.Found.{Found}
 use Rattle.tree.specs.declared.answer.Facts.{Facts}
 use Rattle.whole.specs.Check.{Answer, numberOf}
@@ -33,7 +33,7 @@ leafOf a = record { number = factsNumber a; length = factsLength a; total = fact
 
 -- where a leaf's key bytes begin
 abbrev pub tagStart : List ℕ → List ℕ → ℕ → ℕ
-tagStart words keys n = choose (frameFits words keys) (n * frameOf (trailerOf words) .form .limit) 0
+tagStart words keys n = choose (frameFits words keys) (n * frame words .form .limit) 0
 
 -- a leaf's tag as a part of the key bytes; 0 and 0 where it is empty
 unfoldable pub partOf : List ℕ → List ℕ → ℕ → DirectoryPart
@@ -104,5 +104,5 @@ written c w k s = record { changed = c; words = w; keys = k; scratch = s }
 abbrev pub insertWritten : insert.Out → DirectoryWritten
 insertWritten o = written (insertChange (o .answer)) (o .words) (o .keys) (o .scratch)
 
-abbrev pub deleteWritten : delete.Left → DirectoryWritten
+abbrev pub deleteWritten : delete.Out → DirectoryWritten
 deleteWritten l = written (deleteChange (l .answer)) (l .words) (l .keys) (l .scratch)

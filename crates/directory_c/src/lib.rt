@@ -3,7 +3,7 @@ ghost use mathlib.Core.Path.{_≡_};
 ghost use Rattle.pools.specs.Start.{startNumber, startOf};
 ghost use Rattle.tree.specs.Walk.{searchOf, prefixSearchOf};
 ghost use Rattle.tree.specs.Edge.{minimumOf, maximumOf};
-ghost use Rattle.tree.specs.Leaf.{nextLeafOf, factsOf};
+ghost use Rattle.leaves.specs.Leaf.{nextLeafOf, factsOf};
 ghost use Rattle.whole.specs.Check.{numberOf, checkOf};
 ghost use Rattle.range.specs.Range.{afterOf};
 ghost use Rattle.insert.specs.Insert.{insertOf};
@@ -161,14 +161,14 @@ pub extern "C" fn directory_maximum(words: &[u32], keys: &[u8]) -> DirectoryFoun
 pub extern "C" fn directory_next_leaf(words: &[u32], keys: &[u8], leaf: u32) -> DirectoryFound
     ensures { λ r. ⌜ r ≡ foundOf (nextLeafOf (now (words .entry)) (now (keys .entry)) leaf) ⌝ }
 {
-    found(tree::leaf::next_leaf(words, keys, leaf))
+    found(leaves::next_leaf(words, keys, leaf))
 }
 
 #[no_mangle]
 pub extern "C" fn directory_leaf_facts(words: &[u32], keys: &[u8], leaf: u32) -> DirectoryLeaf
     ensures { λ r. ⌜ r ≡ leafOf (factsOf (now (words .entry)) (now (keys .entry)) leaf) ⌝ }
 {
-    facts(tree::leaf::leaf_facts(words, keys, leaf))
+    facts(leaves::leaf_facts(words, keys, leaf))
 }
 
 // Where the key bytes of a leaf begin.
@@ -186,7 +186,7 @@ fn tag_start(words: &[u32], keys: &[u8], leaf: u32) -> u64
 pub extern "C" fn directory_leaf_tag(words: &[u32], keys: &[u8], leaf: u32) -> DirectoryPart
     ensures { λ r. ⌜ r ≡ partOf (now (words .entry)) (now (keys .entry)) leaf ⌝ }
 {
-    let tag = tree::leaf::leaf_tag(words, keys, leaf);
+    let tag = leaves::leaf_tag(words, keys, leaf);
     let n = tag.len();
     if n == 0 {
         return DirectoryPart {

@@ -13,9 +13,9 @@ use Rattle.lists.proofs.Tests.{count-le}
 use Rattle.lists.proofs.Parts.{between-length}
 use Rattle.frames.specs.Kind.{kindRow, childrenOf}
 use Rattle.records.specs.Own.{sortedChild, indirectChild, childOf}
-use Rattle.records.specs.Row.{sortedRow, directRow, refFor}
+use Rattle.records.specs.Row.{sortedRow, directRow, refFor, Climbs}
 use Rattle.records.proofs.Rows.{spread-length}
-use Rattle.records.proofs.RowRules.{Climbs, filled-climbs, filled-length}
+use Rattle.records.proofs.RowRules.{filled-climbs, filled-length}
 use Rattle.edits.specs.Body.{sortedAdd, sortedRemove, sortedReplace, slotAdd, slotRemove, slotReplace, bodyAdd, bodyRemove, bodyReplace, rowSpread, sortedSpread, slotSpread, bodySpread, sortedBody, slotBody, bodyOf}
 use Rattle.edits.specs.Rows.{Row, rowInsert, rowRemove, rowReplace}
 use Rattle.edits.proofs.Shown.{Laid, by-layout, Holds, holds-laid, laid, holds-size, holds-climbs, holds-child}

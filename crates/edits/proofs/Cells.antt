@@ -7,17 +7,17 @@ use Rattle.prefix.specs.Run.{held}
 use Rattle.prefix.specs.declared.Prefix.{Prefix}
 use Rattle.frames.specs.Kind.{childrenOf}
 use Rattle.frames.specs.Place.{placeAt}
-use Rattle.records.specs.Row.{refFor, directRow}
+use Rattle.records.specs.Row.{refFor, directRow, Climbs}
 use Rattle.records.specs.View.{Held, places, innerCell}
 use Rattle.frames.specs.declared.form.Form.{Form}
-use Rattle.records.proofs.RowRules.{Climbs}
 use Rattle.art.specs.Stores.{Place, Cell, inner-cell}
 use Rattle.art.specs.Refs.{add-ref, cut-ref, re-ref}
 use Rattle.edits.specs.Head.{setPrefix}
 use Rattle.edits.specs.Record.{addOf, removeOf, replaceOf, spreadOf, buildRec}
 use Rattle.edits.specs.Rows.{Row}
 use Rattle.edits.proofs.RowChanges.{insert-places, remove-places, replace-places}
-use Rattle.edits.proofs.Inners.{PrefixFits, Inner, inner-shows, add-inner, remove-inner, replace-inner, prefix-inner, build-inner, move-inner}
+use Rattle.edits.specs.Inner.{PrefixFits, Inner}
+use Rattle.edits.proofs.Inners.{inner-shows, add-inner, remove-inner, replace-inner, prefix-inner, build-inner, move-inner}
 
 -- the cell of this prefix
 abbrev shown : Prefix → List (ℕ × Place) → Cell Held

@@ -14,7 +14,8 @@ use Rattle.lists.proofs.Scans.{Count, count-start, count-on, count-off}
 use Rattle.lists.proofs.Tests.{both, and-both}
 use Rattle.records.specs.Row.{filled, refFor}
 use Rattle.records.proofs.Rows.{case, filled-skips, filled-holds}
-use Rattle.edits.specs.Body.{tab, rowSpread, bytesOf, refsOf, padded, slotFor, sortedBody, slotBody, sortedPut, slotPut}
+use Rattle.lists.specs.Edit.{padded}
+use Rattle.edits.specs.Body.{tab, rowSpread, bytesOf, refsOf, slotFor, sortedBody, slotBody, sortedPut, slotPut}
 
 abbrev Pairs : Type 0
 Pairs = List (ℕ × ℕ)

@@ -16,15 +16,15 @@ use Rattle.prefix.specs.declared.Prefix.{Prefix}
 use Rattle.frames.specs.Kind.{childrenOf, bodyWords}
 use Rattle.frames.specs.Form.{header, recordWords, storedOf}
 use Rattle.records.specs.Own.{prefixAt, headOk, bodyOk, bodyPart, innerOk, childAt, InnerFits}
-use Rattle.records.specs.Row.{bodyRow, rowAt, refFor, directRow}
+use Rattle.records.specs.Row.{bodyRow, rowAt, refFor, directRow, Climbs}
 use Rattle.records.specs.View.{Held, places, innerCell}
 use Rattle.frames.specs.declared.form.Form.{Form}
 use Rattle.records.proofs.Owns.{InnerRule, inner-rule, body-fits}
-use Rattle.records.proofs.RowRules.{Climbs}
 use Rattle.art.specs.Stores.{Cell, unused, inner-cell}
 use Rattle.edits.specs.Head.{setPrefix, setHead}
 use Rattle.edits.specs.Body.{bodyAdd, bodyRemove, bodyReplace, bodyOf}
 use Rattle.edits.specs.Record.{withBody, addOf, removeOf, replaceOf, spreadOf, buildRec}
+use Rattle.edits.specs.Inner.{PrefixFits, Inner}
 use Rattle.edits.specs.Rows.{Row, rowInsert, rowRemove, rowReplace}
 use Rattle.edits.proofs.Shown.{Holds, holds-size, holds-climbs, holds-child}
 use Rattle.edits.proofs.Bodies.{holds-add, holds-remove, holds-replace, holds-built, spread-length-is, spread-shows, spread-count}
@@ -32,19 +32,6 @@ use Rattle.edits.proofs.Bodies.{holds-add, holds-remove, holds-replace,
 -- the cell of this length, prefix and row
 abbrev shown : ℕ → Prefix → Row → Cell Held
 shown n p row = inner-cell n (held p) (places row)
-
--- a prefix that a record of this form can have
-pub record PrefixFits (form : Form) (p : Prefix) : Type 0 where
-  pub short : p .full .0 ≤ form .limit
-  pub eight : length (p .stored) ≡ 8
-  pub bytes : all (atMost 255) (p .stored) ≡ true
-  pub rest : all (atMost 0) (between (p .stored) (capped (p .full .0)) 8) ≡ true
-
--- a record that obeys its rule, and has this prefix and row
-pub record Inner (form : Form) (kind : ℕ) (rec : List ℕ) (p : Prefix) (row : Row) : Type 0 where
-  pub fits : InnerFits form kind rec
-  pub prefix : prefixAt form rec ≡ p
-  pub shows : rowAt form kind rec ≡ row
 
 -- one that obeys its rule has its own prefix and row
 pub inner-own : {form : Form} {kind : ℕ} {rec : List ℕ} → InnerFits form kind rec → Inner form kind rec (prefixAt form rec) (rowAt form kind rec)

@@ -12,10 +12,10 @@ use borrow.Author.Tests.{eq-eqb, ne-eqb, lt-ltb}
 use Rattle.lists.specs.Scan.{nonzero}
 use Rattle.lists.proofs.Scans.{pick}
 use Rattle.frames.specs.Place.{placeAt}
-use Rattle.records.specs.Row.{filled, refFor}
+use Rattle.records.specs.Row.{filled, refFor, Climbs}
 use Rattle.records.specs.View.{places}
 use Rattle.records.proofs.Rows.{filled-skips, filled-holds}
-use Rattle.records.proofs.RowRules.{Climbs, climbs-lower, filled-climbs}
+use Rattle.records.proofs.RowRules.{climbs-lower, filled-climbs}
 use Rattle.art.specs.Stores.{Place}
 use Rattle.art.specs.Tags.{Order, order, below, equal, above}
 use Rattle.art.specs.Refs.{add-ref, add-ref-by, pair-ref, pair-ref-by, cut-ref, re-ref}

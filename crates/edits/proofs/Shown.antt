@@ -9,8 +9,8 @@ use lib.Dec.{eqb, leb}
 use Rattle.lists.specs.Scan.{choose}
 use Rattle.frames.specs.Kind.{kindRow, childrenOf, bodyWords}
 use Rattle.records.specs.Own.{sortedOk, indirectOk, directOk, bodyOk, childOf, BodyFits}
-use Rattle.records.specs.Row.{sortedRow, indirectRow, directRow, bodyRow, refFor}
-use Rattle.records.proofs.RowRules.{Climbs, body-row}
+use Rattle.records.specs.Row.{sortedRow, indirectRow, directRow, bodyRow, refFor, Climbs}
+use Rattle.records.proofs.RowRules.{body-row}
 use Rattle.edits.specs.Rows.{Row}
 
 -- a list of this size that obeys a rule and shows a row

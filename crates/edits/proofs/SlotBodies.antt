@@ -17,12 +17,12 @@ use Rattle.lists.proofs.Tests.{and-both, all-at, all-by, all-set, first-le, fir
 use Rattle.lists.proofs.Parts.{between-length, between-at, between-middle, between-set-before, between-set-after, between-set-in}
 use Rattle.frames.specs.Kind.{kindRow}
 use Rattle.records.specs.Own.{named, byslot, SlotsFit, indirectOk, bodyOk, indirectChild, BodyFits}
-use Rattle.records.specs.Row.{filled, spread, refFor}
+use Rattle.records.specs.Row.{filled, spread, refFor, Climbs}
 use Rattle.records.proofs.Owns.{indirect-fits}
 use Rattle.records.proofs.Slots.{count-has, named-get, slot-filled}
 use Rattle.records.proofs.Rows.{spread-length, spread-at}
-use Rattle.records.proofs.RowRules.{Climbs}
-use Rattle.edits.specs.Body.{slotAdd, slotRemove, slotReplace, tab, refsOf, padded, slotFor, slotBody}
+use Rattle.lists.specs.Edit.{padded}
+use Rattle.edits.specs.Body.{slotAdd, slotRemove, slotReplace, tab, refsOf, slotFor, slotBody}
 use Rattle.edits.specs.Rows.{Row, rowInsert, rowRemove, rowReplace}
 use Rattle.edits.proofs.RowChanges.{table-insert, table-remove, table-replace}
 use Rattle.edits.proofs.Shown.{Indirect}

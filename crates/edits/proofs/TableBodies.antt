@@ -11,9 +11,9 @@ use Rattle.lists.specs.Scan.{nonzero, all}
 use Rattle.lists.proofs.Scans.{pick}
 use Rattle.lists.proofs.Tests.{and-both}
 use Rattle.records.specs.Own.{directOk}
-use Rattle.records.specs.Row.{filled, directRow, refFor}
+use Rattle.records.specs.Row.{filled, directRow, refFor, Climbs}
 use Rattle.records.proofs.Rows.{filled-skips, filled-holds}
-use Rattle.records.proofs.RowRules.{Climbs, climbs-none, filled-length}
+use Rattle.records.proofs.RowRules.{climbs-none, filled-length}
 use Rattle.edits.specs.Body.{tab, rowSpread}
 use Rattle.edits.specs.Rows.{Row, rowInsert, rowRemove, rowReplace}
 use Rattle.edits.proofs.RowChanges.{insert-length, remove-length, replace-length, table-insert, table-remove, table-replace}

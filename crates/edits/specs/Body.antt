@@ -1,12 +1,12 @@
 -- The body of an inner record changed, by kind, and the body of a row.
-use Prim.Native.Nat.{ℕ, zero, suc, _+_, _-_}
+use Prim.Native.Nat.{ℕ, zero, suc, _+_}
 use mathlib.Core.List.{List, [], _∷_, _++_}
 use mathlib.Core.Bool.{true, false}
-use lib.ListN.{length, getD, set, replicate}
+use lib.ListN.{getD, set}
 use lib.Dec.{eqb, leb}
 use Rattle.lists.specs.Scan.{choose, is, atLeast, first}
 use Rattle.lists.specs.Part.{between}
-use Rattle.lists.specs.Edit.{shiftIn, shiftOut}
+use Rattle.lists.specs.Edit.{shiftIn, shiftOut, padded}
 use Rattle.frames.specs.Kind.{childrenOf}
 use Rattle.records.specs.Row.{sortedRow, spread, refFor}
 
@@ -40,10 +40,11 @@ slotAdd body byte ref = set (set body byte (first (is 0) (between body 256 304) 
 unfoldable pub slotRemove : List ℕ → ℕ → List ℕ
 slotRemove body byte = set (set body byte 0) (255 + getD body byte 0) 0
 
+-- another reference at the place that the slot number names
 unfoldable pub slotReplace : List ℕ → ℕ → ℕ → List ℕ
 slotReplace body byte ref = set body (255 + getD body byte 0) ref
 
--- ── every kind ──
+-- ── every kind: 1 and 2, 3, and 4, where a byte has its own place ──
 unfoldable pub bodyAdd : ℕ → List ℕ → ℕ → ℕ → ℕ → List ℕ
 bodyAdd kind body n byte ref =
     choose (leb kind 2) (sortedAdd (childrenOf kind) body n byte ref) (choose (eqb kind 3) (slotAdd body byte ref) (set body byte ref))
@@ -62,6 +63,7 @@ abbrev pub tab : ℕ → ℕ → (ℕ → ℕ) → List ℕ
 tab zero b g = []
 tab (suc m) b g = g b ∷ tab m (suc b) g
 
+-- the references of a row by their bytes
 abbrev pub rowSpread : List (ℕ × ℕ) → List ℕ
 rowSpread row = tab 256 0 (λ b. refFor b row)
 
@@ -75,6 +77,7 @@ unfoldable pub bodySpread : ℕ → List ℕ → ℕ → List ℕ
 bodySpread kind body n = choose (leb kind 2) (sortedSpread (childrenOf kind) body n) (choose (eqb kind 3) (slotSpread body) body)
 
 -- ── the body of a row ──
+-- its bytes, and its references
 abbrev pub bytesOf : List (ℕ × ℕ) → List ℕ
 bytesOf [] = []
 bytesOf (e ∷ es) = e .0 ∷ bytesOf es
@@ -82,10 +85,6 @@ bytesOf (e ∷ es) = e .0 ∷ bytesOf es
 abbrev pub refsOf : List (ℕ × ℕ) → List ℕ
 refsOf [] = []
 refsOf (e ∷ es) = e .1 ∷ refsOf es
-
--- these, and 0 up to k
-abbrev pub padded : ℕ → List ℕ → List ℕ
-padded k l = l ++ replicate (k - length l) 0
 
 -- the slot number of a byte: one more than its place in the row, 0 where it has none
 abbrev pub slotFor : ℕ → List (ℕ × ℕ) → ℕ
@@ -96,7 +95,7 @@ slotFor b (e ∷ es) = elim (eqb (e .0) b) [ true ↦ 1 | false ↦ choose (eqb 
 unfoldable pub sortedBody : ℕ → List (ℕ × ℕ) → List ℕ
 sortedBody k row = padded k (bytesOf row) ++ padded k (refsOf row)
 
--- slots in byte order
+-- the slot numbers of the 256 bytes, given in byte order, then the references
 unfoldable pub slotBody : List (ℕ × ℕ) → List ℕ
 slotBody row = tab 256 0 (λ b. slotFor b row) ++ padded 48 (refsOf row)
 
@@ -107,5 +106,6 @@ sortedPut k i byte ref body = set (set body i byte) (k + i) ref
 abbrev pub slotPut : ℕ → ℕ → ℕ → List ℕ → List ℕ
 slotPut i byte ref body = set (set body byte (i + 1)) (256 + i) ref
 
+-- by the kind
 unfoldable pub bodyOf : ℕ → List (ℕ × ℕ) → List ℕ
 bodyOf kind row = choose (leb kind 2) (sortedBody (childrenOf kind) row) (choose (eqb kind 3) (slotBody row) (rowSpread row))

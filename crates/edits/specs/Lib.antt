@@ -2,3 +2,4 @@ pub mod Head
 pub mod Body
 pub mod Rows
 pub mod Record
+pub mod Inner

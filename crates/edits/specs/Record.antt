@@ -14,6 +14,7 @@ use Rattle.edits.specs.Body.{bodyAdd, bodyRemove, bodyReplace, bodySprea
 abbrev pub withBody : Form → ℕ → List ℕ → List ℕ → List ℕ
 withBody form kind rec body = splice rec (header form) (recordWords form kind) body
 
+-- a child more, a child less, and another reference for a child
 unfoldable pub addOf : Form → ℕ → List ℕ → ℕ → ℕ → List ℕ
 addOf form kind rec byte ref =
     set (withBody form kind rec (bodyAdd kind (bodyPart form kind rec) (getD rec 1 0) byte ref)) 1 (getD rec 1 0 + 1)

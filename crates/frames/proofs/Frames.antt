@@ -6,18 +6,18 @@ use mathlib.Core.Bool.{Bool, true, false, _&&_}
 use native.Mathlib.Omega.{arith}
 use native.Mathlib.Nat.{mul-le-mul-right, suc-mul}
 use lib.ListN.{length, getD}
-use lib.Dec.{eqb, leb}
-use borrow.Author.Tests.{leb-true, eqb-true}
+use lib.Dec.{eqb, leb, ltb}
+use borrow.Author.Tests.{leb-true, eqb-true, le-ltb}
 use Rattle.lists.proofs.Tests.{both}
 use Rattle.frames.specs.Form.{formKnown, formOf, recordWords, sizesOf, SmallSizes}
-use Rattle.frames.specs.Frame.{capsOf, capsSmall, SmallCaps, backsOf, backsMatch, formFits, trailerFits, trailerOf, frameFits, frameOf, Framed, FrameOf, capsList, sizesList, startsList}
+use Rattle.frames.specs.Frame.{trailerOf, frameFits, frameOf, frame, capsOf, capsSmall, SmallCaps, backsOf, backsMatch, formFits, trailerFits, frameWith, Framed, FrameOf, capsList, sizesList, startsList}
 use Rattle.frames.specs.declared.form.Form.{Form}
 use Rattle.frames.specs.declared.form.Sizes.{Sizes}
 use Rattle.frames.specs.declared.frame.Caps.{Caps}
 use Rattle.frames.specs.declared.frame.Frame.{Frame}
 use Rattle.lists.proofs.Tables.{both5}
 use Rattle.frames.proofs.KindTable.{by-kind}
-use Rattle.frames.proofs.FormTable.{known-sizes}
+use Rattle.frames.proofs.FormTable.{form-rules, known-sizes}
 
 pub caps-small : (c : Caps) → capsSmall c ≡ true → SmallCaps c
 caps-small c e =
@@ -51,6 +51,16 @@ by-eight P a b c d e f g h (suc (suc (suc (suc (suc zero))))) l = f
 by-eight P a b c d e f g h (suc (suc (suc (suc (suc (suc zero)))))) l = g
 by-eight P a b c d e f g h (suc (suc (suc (suc (suc (suc (suc zero))))))) l = h
 by-eight P a b c d e f g h (suc (suc (suc (suc (suc (suc (suc (suc k)))))))) l = absurd (omega arith)
+
+-- no pool has more than 4,096 records
+abbrev Small : Frame → ℕ → Type 0
+Small f k = getD (f .caps) k 0 ≤ 4096
+
+pub caps-most : {f : Frame} → Framed f → (k : ℕ) → k < 8 → getD (f .caps) k 0 ≤ 4096
+caps-most {f} w k h =
+    let s = w .small-caps in
+    subst (λ (g : Frame). Small g k) (sym (w .made))
+    (by-eight (Small (frameWith (w .form) (w .sizes) (w .caps))) (omega arith) (s .s1) (s .s2) (s .s3) (s .s4) (s .s5) (omega arith) (omega arith) k h)
 
 -- the nth of c records of z words ends within them
 nth-ends : (n c z : ℕ) → n < c → n * z + z ≤ c * z
@@ -99,6 +109,7 @@ pub record Totals (words keys : List ℕ) : Type 0 where
   pub small : capsSmall (capsOf (trailerOf words)) ≡ true
   pub total : length words ≡ backsOf (sizesOf (formAt (trailerOf words))) (capsOf (trailerOf words)) .b1 + 16
   pub bytes : length keys ≡ getD (trailerOf words) 10 0 * formAt (trailerOf words) .limit
+  pub backs : backsMatch (trailerOf words) (backsOf (sizesOf (formAt (trailerOf words))) (capsOf (trailerOf words))) ≡ true
 
 pub totals : (words keys : List ℕ) → frameFits words keys ≡ true → Totals words keys
 unfolding frameFits trailerFits formFits
@@ -110,7 +121,7 @@ totals words keys e =
     let g = both (formKnown (getD t 0 0)) (capsSmall (capsOf t)) (q .0) in
     let h =
     both5 true (backsMatch t b) (eqb (getD t 15 0) (b .b1 + 16)) (eqb (length words) (getD t 15 0)) (eqb (length keys) (getD t 10 0 * formAt t .limit)) (q .1) in
-    record { long = leb-true _ _ (p .0); known = g .0; small = g .1; total = eqb-true _ _ (h .3) ∙ eqb-true _ _ (h .2); bytes = eqb-true _ _ (h .4) }
+    record { long = leb-true _ _ (p .0); known = g .0; small = g .1; total = eqb-true _ _ (h .3) ∙ eqb-true _ _ (h .2); bytes = eqb-true _ _ (h .4); backs = h .1 }
 
 pub framed : {f : Frame} {words keys : List ℕ} → FrameOf f words keys → Framed f
 unfolding frameOf
@@ -155,3 +166,42 @@ module _ {f : Frame} {words keys : List ℕ} (w : FrameOf f words keys) where
   pub leaf-size : getD (f .sizes) 5 0 ≡ 6
   unfolding frameOf
   leaf-size = subst (λ (g : Frame). getD (g .sizes) 5 0 ≡ 6) (sym (w .read)) refl
+
+  -- no form's tags are longer
+  pub limit-small : f .form .limit ≤ 128
+  unfolding frameOf
+  limit-small = subst (λ (g : Frame). g .form .limit ≤ 128) (sym (w .read)) (form-rules (getD (trailerOf words) 0 0) (totals words keys (w .fits) .known) .limit)
+
+  -- the capacity of a kind, as the trailer has it
+  abbrev CapAt : ℕ → Frame → ℕ → Type 0
+  CapAt n g k = leb 1 k && leb k 5 && ltb n (getD (trailerOf words) (5 + k) 0) ≡ ltb n (getD (g .caps) k 0)
+
+  pub cap-at : (n k : ℕ) → k < 8 → CapAt n f k
+  unfolding frameOf
+  cap-at n k l =
+      let none : false ≡ ltb n 0 = sym (le-ltb n 0 (omega arith)) in
+      subst (λ (g : Frame). CapAt n g k) (sym (w .read))
+      (by-eight (CapAt n (frame words)) none refl refl refl refl refl none none k l)
+
+  -- the first word of a kind's pool, by the trailer's distance back
+  abbrev BackAt : Frame → ℕ → Type 0
+  BackAt g k = 1 ≤ k → k ≤ 5 → getD (trailerOf words) k 0 + getD (g .starts) k 0 + 16 ≡ length words
+
+  pub back-at : (k : ℕ) → k < 8 → BackAt f k
+  unfolding frameOf
+  back-at k l =
+      let z = totals words keys (w .fits) in
+      let t = trailerOf words in
+      let b = backsOf (sizesOf (formAt t)) (capsOf t) in
+      let e = both5 (eqb (getD t 1 0) (b .b1)) (eqb (getD t 2 0) (b .b2)) (eqb (getD t 3 0) (b .b3)) (eqb (getD t 4 0) (b .b4)) (eqb (getD t 5 0) (b .b5)) (z .backs) in
+      subst (λ (g : Frame). BackAt g k) (sym (w .read))
+      (by-eight (BackAt (frameOf t))
+      (λ h m. absurd (omega arith))
+      (λ h m. omega (arith, eqb-true (getD t 1 0) (b .b1) (e .0), z .total))
+      (λ h m. omega (arith, eqb-true (getD t 2 0) (b .b2) (e .1), z .total))
+      (λ h m. omega (arith, eqb-true (getD t 3 0) (b .b3) (e .2), z .total))
+      (λ h m. omega (arith, eqb-true (getD t 4 0) (b .b4) (e .3), z .total))
+      (λ h m. omega (arith, eqb-true (getD t 5 0) (b .b5) (e .4), z .total))
+      (λ h m. absurd (omega arith))
+      (λ h m. absurd (omega arith))
+      k l)

@@ -1,13 +1,13 @@
 -- The kind table's rules, by one test of the whole table: children rise with the kind, a kind's shrink mark is the next smaller kind's
 -- children, and the words of a record are a head of 11 and what the kind lays out.
-use Prim.Native.Nat.{ℕ, zero, suc, _+_, _-_, _≤_, _<_}
+use Prim.Native.Nat.{ℕ, zero, suc, _+_, _-_, _≤_}
 use mathlib.Core.Path.{_≡_, refl, ap, subst}
 use mathlib.Core.Bool.{Bool, true, _&&_}
 use native.Mathlib.Omega.{arith}
 use lib.Dec.{eqb, leb, ltb, lit≤}
 use borrow.Author.Tests.{le-leb, leb-true, ltb-true, eqb-true}
 use Rattle.lists.specs.Scan.{choose}
-use Rattle.frames.specs.Kind.{kindTable, noRow, kindRow, childrenOf, markOf, bodyWords}
+use Rattle.frames.specs.Kind.{kindTable, noRow, kindRow, childrenOf, bodyWords, layout, before, KindRules}
 use Rattle.frames.specs.declared.kind.KindRow.{KindRow}
 use Rattle.lists.proofs.Tables.{both5, every-at}
 
@@ -19,14 +19,6 @@ by-kind P a b c d (suc (suc zero)) l h = b
 by-kind P a b c d (suc (suc (suc zero))) l h = c
 by-kind P a b c d (suc (suc (suc (suc zero)))) l h = d
 by-kind P a b c d (suc (suc (suc (suc (suc k))))) l h = absurd (omega arith)
-
--- the words after the head: kinds 1 and 2 two for each child, kind 3 256 slot numbers and one for each child, kind 4 one for each child
-unfoldable pub layout : ℕ → ℕ → ℕ
-layout kind children = choose (leb kind 2) (children + children) (choose (leb kind 3) (256 + children) children)
-
--- the children of the next smaller kind, 0 for kind 1
-unfoldable pub before : ℕ → ℕ
-before kind = choose (leb 2 kind) (childrenOf (kind - 1)) 0
 
 kindTest : ℕ → KindRow → Bool
 kindTest kind row =
@@ -41,13 +33,6 @@ unfolding kindRow kindTest layout before
 kind-tested kind l h =
     subst (λ (k : ℕ). kindTest k (kindRow kind) ≡ true) (let q : 1 + (kind - 1) ≡ kind = omega arith in q)
     (every-at kindTest noRow kindTable 1 refl (kind - 1) (omega arith))
-
-pub record KindRules (kind : ℕ) : Type 0 where
-  pub words : kindRow kind .words ≡ 11 + layout kind (childrenOf kind)
-  pub least : 4 ≤ childrenOf kind
-  pub most : childrenOf kind ≤ 256
-  pub mark : markOf kind ≡ before kind
-  pub rise : before kind < childrenOf kind
 
 pub kind-rules : (kind : ℕ) → 1 ≤ kind → kind ≤ 4 → KindRules kind
 unfolding kindTest

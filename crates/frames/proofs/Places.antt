@@ -1,5 +1,5 @@
 -- The place that a reference names, by the reference's kind and number, and the room that a place of a pool has.
-use Prim.Native.Nat.{ℕ, _+_, _*_, _/_, _%_, _≤_, _<_}
+use Prim.Native.Nat.{ℕ, _+_, _-_, _*_, _/_, _%_, _≤_, _<_}
 use mathlib.Core.Path.{_≡_, refl, sym, ap, _∙_}
 use mathlib.Core.List.{List}
 use mathlib.Core.Bool.{Bool, true, false, _&&_, and-false}
@@ -10,11 +10,11 @@ use borrow.Author.Tests.{le-leb, leb-true, ltb-true, eqb-true, eqb-false, eq-eqb
 use Rattle.lists.specs.Scan.{choose}
 use Rattle.lists.proofs.Tests.{both}
 use Rattle.lists.proofs.Parts.{between-length}
-use Rattle.frames.specs.Frame.{Framed, FrameOf}
+use Rattle.frames.specs.Frame.{trailerOf, Framed, FrameOf}
 use Rattle.frames.specs.Place.{placeAt, refOf, inPool, startAt, sizeAt, recordAt, keyAt}
 use Rattle.frames.specs.declared.frame.Frame.{Frame}
 use Rattle.art.specs.Stores.{Place, leaf-place, inner-place}
-use Rattle.frames.proofs.Frames.{framed-room, frame-room, key-room, frame-size, leaf-size}
+use Rattle.frames.proofs.Frames.{framed, framed-room, frame-room, key-room, frame-size, leaf-size, cap-at, back-at}
 
 module _ (f : Frame) (ref : ℕ) where
   abbrev named : Bool → Place
@@ -77,6 +77,25 @@ module _ {f : Frame} {words keys : List ℕ} (w : FrameOf f words keys) where
       let r = leaf-room n e in
       let a = n * f .form .limit in
       between-length keys a (a + f .form .limit) (omega arith) (omega arith) ∙ omega arith
+
+-- ---- the same read from the trailer: the capacity c, and the distance back
+module _ {f : Frame} {words keys : List ℕ} (w : FrameOf f words keys) (ref : ℕ) where
+  pub pool-trailer : (c : ℕ) → c ≡ getD (trailerOf words) (5 + ref % 8) 0 → leb 1 (ref % 8) && leb (ref % 8) 5 && ltb (ref / 8) c ≡ inPool f (placeAt ref)
+  pool-trailer c e =
+      ap (λ (m : ℕ). leb 1 (ref % 8) && leb (ref % 8) 5 && ltb (ref / 8) m) e
+      ∙ cap-at w (ref / 8) (ref % 8) (omega arith)
+      ∙ pool-by f ref (framed w)
+
+  module _ (back : ℕ) (e : back ≡ getD (trailerOf words) (ref % 8) 0) (p : inPool f (placeAt ref) ≡ true) where
+    pub back-within : (back + 16 ≤ length words) × (length words - 16 - back ≡ getD (f .starts) (ref % 8) 0)
+    back-within =
+        let h : ref / 8 < getD (f .caps) (ref % 8) 0 = ltb-true _ _ (pool-by f ref (framed w) ∙ p) in
+        let r = framed-room (framed w) (ref / 8) (ref % 8) (omega arith) h in
+        let q = back-at w (ref % 8) (omega arith) (r .0) (r .1) in
+        (omega arith, omega arith)
+
+    pub start-trailer : length words - 16 - back + ref / 8 * getD (f .sizes) (ref % 8) 0 ≡ startAt f (placeAt ref)
+    start-trailer = ap (λ (a : ℕ). a + ref / 8 * getD (f .sizes) (ref % 8) 0) (back-within .1) ∙ start-by f ref
 
 -- ---- references and places name each other
 pub ref-place : (ref : ℕ) → refOf (placeAt ref) ≡ ref

@@ -12,9 +12,11 @@ use Rattle.frames.specs.declared.form.Sizes.{Sizes}
 abbrev pub forms : List Form
 forms = record { number = 1; prefix = 8; counts = 0; limit = 64 } ∷ []
 
+-- what no form has
 abbrev pub noForm : Form
 noForm = record { number = 0; prefix = 0; counts = 0; limit = 0 }
 
+-- the form of a number, where there is one
 unfoldable pub formKnown : ℕ → Bool
 formKnown number = leb 1 number && leb number (length forms)
 
@@ -25,6 +27,7 @@ formOf number = getD forms (number - 1) noForm
 abbrev pub header : Form → ℕ
 header form = 3 + form .counts + form .prefix
 
+-- the words of a record: its head goes by the form, its body by the kind
 abbrev pub recordWords : Form → ℕ → ℕ
 recordWords form kind = header form + bodyWords kind
 

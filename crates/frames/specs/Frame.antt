@@ -17,6 +17,7 @@ use Rattle.frames.specs.declared.frame.Frame.{Frame}
 abbrev pub capsOf : List ℕ → Caps
 capsOf t = record { c1 = getD t 6 0; c2 = getD t 7 0; c3 = getD t 8 0; c4 = getD t 9 0; c5 = getD t 10 0 }
 
+-- each at most 4,096
 abbrev pub capsSmall : Caps → Bool
 capsSmall c = leb (c .c1) 4096 && leb (c .c2) 4096 && leb (c .c3) 4096 && leb (c .c4) 4096 && leb (c .c5) 4096
 
@@ -38,6 +39,7 @@ backsOf z c =
       b5 = c .c5 * z .z5;
     }
 
+-- the trailer's words 1 to 5 are these
 abbrev pub backsMatch : List ℕ → Backs → Bool
 backsMatch t b =
     eqb (getD t 1 0) (b .b1) && eqb (getD t 2 0) (b .b2) && eqb (getD t 3 0) (b .b3) && eqb (getD t 4 0) (b .b4) && eqb (getD t 5 0) (b .b5)
@@ -50,6 +52,7 @@ formFits form t c n k =
     && eqb n (getD t 15 0)
     && eqb k (c .c5 * form .limit)
 
+-- a form that is known, small capacities, and the rest as that form has it
 unfoldable pub trailerFits : List ℕ → ℕ → ℕ → Bool
 trailerFits t n k = (formKnown (getD t 0 0) && capsSmall (capsOf t)) && formFits (formOf (getD t 0 0)) t (capsOf t) n k
 
@@ -83,8 +86,13 @@ startsList z c =
 abbrev pub frameWith : Form → Sizes → Caps → Frame
 frameWith form z c = record { form = form; sizes = sizesList z; caps = capsList c; starts = startsList z c }
 
+-- the frame that a trailer gives
 unfoldable pub frameOf : List ℕ → Frame
 frameOf t = frameWith (formOf (getD t 0 0)) (sizesOf (formOf (getD t 0 0))) (capsOf t)
+
+-- the frame that a block's trailer gives
+abbrev pub frame : List ℕ → Frame
+frame words = frameOf (trailerOf words)
 
 -- a frame of small sizes and capacities, whatever the words are now
 pub record Framed (f : Frame) : Type 0 where
@@ -110,5 +118,5 @@ countWord words = getD (trailerOf words) 14 0
 
 -- a frame that was read from words that it fits
 pub record FrameOf (f : Frame) (words keys : List ℕ) : Type 0 where
-  pub read : f ≡ frameOf (trailerOf words)
+  pub read : f ≡ frame words
   pub fits : frameFits words keys ≡ true

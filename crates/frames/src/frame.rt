@@ -224,3 +224,25 @@ pub fn start_at(f: Frame, reference: u32) -> usize
     let sizes = f.sizes;
     starts[k] + n * sizes[k]
 }
+
+// As `in_pool`, with the capacity read where it stands in the trailer: on a walk that is quicker than the copy of the frame's table.
+pub fn pool_has(words: &[u32], keys: &[u8], f: Frame, reference: u32) -> bool
+    requires { ⌜ FrameOf f (now words) (now keys) ⌝ }
+    ensures { λ r. ⌜ r ≡ inPool f (placeAt reference) ⌝ }
+{
+    let k = reference % 8;
+    let c = trailer_word(words, 5 + k as usize);
+    (1 <= k) & (k <= 5) & (reference / 8 < c)
+}
+
+// As `start_at`, by the distance back that stands in the trailer.
+pub fn pool_start(words: &[u32], keys: &[u8], f: Frame, reference: u32) -> usize
+    requires { ⌜ FrameOf f (now words) (now keys) × (inPool f (placeAt reference) ≡ true) ⌝ }
+    ensures { λ r. ⌜ r ≡ startAt f (placeAt reference) ⌝ }
+{
+    let k = (reference % 8) as usize;
+    let n = (reference / 8) as usize;
+    let back = trailer_word(words, k) as usize;
+    let sizes = f.sizes;
+    words.len() - 16 - back + n * sizes[k]
+}

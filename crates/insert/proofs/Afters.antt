@@ -34,18 +34,12 @@ use Rattle.view.proofs.Views.{used-place}
 use Rattle.reading.specs.Shown.{Shown}
 use Rattle.reading.proofs.Entries.{numbers-held, entry-seen, entry-obeys}
 use Rattle.pointed.proofs.Neighbours.{leaf-used}
-use Rattle.range.specs.Range.{below, leafStep, stepOf, afterFrom, afterFirst}
-use Rattle.range.specs.declared.After.{After}
+use Rattle.range.specs.Range.{below, leafStep, stepOf, afterFrom, afterFirst, afterIs}
 use Rattle.range.specs.declared.After.the-variants.{Leaf, Missing}
 use Rattle.range.specs.declared.Step.{Step}
 use Rattle.range.specs.declared.Step.the-variants.{Next, Final}
 use Rattle.range.proofs.Steps.{step-end, step-leaf, after-next, after-end}
 use Rattle.insert.proofs.Few.{few}
-
--- what the walk answers for what the first tag at or after holds
-abbrev pub afterIs : Option Held → After
-afterIs none = Missing
-afterIs (some h) = Leaf (h .number) (h .total)
 
 -- ── the test on bytes is the order of tags ──
 or-true : (b : Bool) → b || true ≡ true

@@ -9,7 +9,7 @@ use lib.Dec.{eqb, ltb}
 use borrow.Author.Tests.{lt-ltb, le-ltb}
 use Rattle.lists.specs.Scan.{choose}
 use Rattle.frames.specs.Form.{forms, formOf}
-use Rattle.frames.specs.Frame.{trailerOf, rootWord, frameFits, frameOf, FrameOf}
+use Rattle.frames.specs.Frame.{trailerOf, rootWord, frameFits, frameOf, FrameOf, frame}
 use Rattle.frames.specs.Place.{inPool, recordAt}
 use Rattle.frames.specs.declared.frame.Frame.{Frame}
 use Rattle.frames.proofs.FormTable.{form-in}
@@ -17,7 +17,7 @@ use Rattle.frames.proofs.Frames.{totals}
 use Rattle.records.specs.Own.{totalOf}
 use Rattle.art.specs.Stores.{leaf-place}
 use Rattle.reading.specs.Answers.{Bytes}
-use Rattle.whole.specs.Sound.{frame, Sound}
+use Rattle.whole.specs.Sound.{Sound}
 use Rattle.whole.specs.Check as check
 use Rattle.whole.specs.declared.check.Checked.{Checked}
 use Rattle.whole.specs.declared.check.Checked.the-variants as checked

@@ -18,7 +18,7 @@ use Rattle.frames.specs.declared.frame.Frame.{Frame}
 use Rattle.frames.proofs.Places.{inner-kind, key-length}
 use Rattle.records.specs.Own.{prefixAt}
 use Rattle.art.specs.Stores.{Place, leaf-place, inner-place}
-use Rattle.whole.specs.Witness.{tagLen, tagAt, LeafSeen}
+use Rattle.whole.specs.Witness.{lengthAt, tagAt, LeafSeen}
 use Rattle.points.specs.There.{InnerHere}
 use Rattle.writes.specs.At.{prefixedAt, branchAt}
 use Rattle.insert.specs.Apply.{cutAt, CutOrLeaf, forked}
@@ -39,7 +39,7 @@ split-stored p n leaf depth = go (leb (p .full .0) 8)
 -- a leaf's tag is no longer than the form's limit
 pub tag-short : {f : Frame} {words keys : List ℕ} → FrameOf f words keys → (ref : ℕ) → LeafSeen f words keys ref → length (tagAt f words keys ref) ≤ f .form .limit
 unfolding tagAt
-tag-short {f} {words} {keys} w ref seen = omega (arith, length-take (tagLen f words ref) (keyAt f keys (ref / 8)), key-length w (ref / 8) (seen .pool))
+tag-short {f} {words} {keys} w ref seen = omega (arith, length-take (lengthAt f words ref) (keyAt f keys (ref / 8)), key-length w (ref / 8) (seen .pool))
 
 -- no reference to a record of a pool is 0
 pub pool-some : {f : Frame} {words keys : List ℕ} → FrameOf f words keys → (ref : ℕ) → inPool f (placeAt ref) ≡ true → 0 < ref

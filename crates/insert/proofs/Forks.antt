@@ -20,7 +20,7 @@ use Rattle.frames.specs.declared.frame.Frame.{Frame}
 use Rattle.frames.proofs.Places.{inner-kind, place-inner, ref-place}
 use Rattle.records.specs.Own.{prefixAt}
 use Rattle.records.specs.View.{Held}
-use Rattle.edits.proofs.Inners.{PrefixFits}
+use Rattle.edits.specs.Inner.{PrefixFits}
 use Rattle.art.specs.Tags.{Tag}
 use Rattle.art.specs.Stores.{Place, leaf-place, inner-place, Cell, unused, leaf-cell, inner-cell, Store, write, apply, cell-tag}
 use Rattle.art.specs.Refs.{Refs, pair-ref}
@@ -29,7 +29,7 @@ use Rattle.art.specs.Points as art
 use Rattle.art.specs.Points.{ChildAt, ForkFits, tag-at, trim, shorten}
 use Rattle.art.proofs.Stores.{write-other}
 use Rattle.view.specs.Pools.{FreeAt}
-use Rattle.whole.specs.Witness.{tagLen, tagAt}
+use Rattle.whole.specs.Witness.{lengthAt, tagAt}
 use Rattle.points.specs.There.{ForkThere}
 use Rattle.points.specs.declared.insert_point.Up.{Up}
 use Rattle.writes.specs.At.{branchAt, InnerPlace}
@@ -144,7 +144,7 @@ module _ {f : Frame} {words keys : List ℕ} {σ : Store Held} {links : Links} {
   unfolding tagAt
   t-bytes =
       let a = leaf / 8 * f .form .limit in
-      all-take (atMost 255) (tagLen f words leaf) (keyAt f keys (leaf / 8)) (all-between (atMost 255) keys a (a + f .form .limit) key-bytes)
+      all-take (atMost 255) (lengthAt f words leaf) (keyAt f keys (leaf / 8)) (all-between (atMost 255) keys a (a + f .form .limit) key-bytes)
 
   t-inside : d + c < length t
   t-inside = omega (arith, fits .inside-leaf, ap length fork-tag)

@@ -25,10 +25,10 @@ use Rattle.view.proofs.Views.{used-place}
 use Rattle.reading.specs.Shown.{Shown}
 use Rattle.reading.proofs.Entries.{numbers-held}
 use Rattle.pointed.proofs.Neighbours.{numberOf, leaf-used, head-used, last-used}
-use Rattle.range.specs.Range.{afterFirst}
+use Rattle.range.specs.Range.{afterFirst, afterIs}
 use Rattle.writes.specs.declared.leaf_node.Gap.{Gap}
 use Rattle.insert.proofs.Plans.{Placed}
-use Rattle.insert.proofs.Afters.{afterIs, numbers-append, after-shown}
+use Rattle.insert.proofs.Afters.{numbers-append, after-shown}
 
 -- the listing parted before the first tag that is not below
 record Parts (tag : Tag) (l : Listing Held) : Type 0 where

@@ -9,7 +9,7 @@ use lib.ListN.{length, getD}
 use borrow.Author.Tests.{le-ltb}
 use Rattle.lists.specs.Scan.{choose}
 use Rattle.frames.specs.Form.{formOf}
-use Rattle.frames.specs.Frame.{trailerOf, frameFits, frameOf}
+use Rattle.frames.specs.Frame.{trailerOf, frameFits, frameOf, frame}
 use Rattle.frames.specs.Place.{recordAt}
 use Rattle.frames.specs.declared.form.Form.{Form}
 use Rattle.frames.specs.declared.frame.Frame.{Frame}
@@ -28,7 +28,7 @@ use Rattle.pools.specs.Pool.{lowestFree}
 use Rattle.whole.specs.Marks.{placesIn}
 use Rattle.whole.specs.Check as check
 use Rattle.whole.specs.declared.check.Checked.the-variants as checked
-use Rattle.whole.specs.Sound.{frame, Sound}
+use Rattle.whole.specs.Sound.{Sound}
 use Rattle.whole.proofs.Sounds.{sound-whole}
 use Rattle.reading.specs.Answers.{Bytes}
 use Rattle.insert.specs.declared.answer.Inserted.{Inserted}

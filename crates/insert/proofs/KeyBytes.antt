@@ -11,7 +11,6 @@ use Rattle.lists.specs.Scan.{all, atMost}
 use Rattle.lists.proofs.Tests.{and-both, all-at, all-append, all-replicate}
 use Rattle.lists.proofs.Parts.{splice-all}
 use Rattle.frames.specs.declared.frame.Frame.{Frame}
-use Rattle.pools.specs.Leaf.{keyBytes}
 use Rattle.reading.specs.Answers.{Bytes}
 use Rattle.writes.specs.Leaf.{keyIn}
 use Rattle.insert.proofs.Ready.{bytes-all}
@@ -24,7 +23,7 @@ all-bytes l h i = go (decLt i (length l))
     go (no k) = let over : length l ≤ i = omega arith in omega (arith, List·getD-eq-default l 0 over)
 
 pub key-in-bytes : (f : Frame) (n : ℕ) (tag keys : List ℕ) → Bytes tag → Bytes keys → Bytes (keyIn f n tag keys)
-unfolding keyIn keyBytes
+unfolding keyIn
 key-in-bytes f n tag keys t k =
     let a = n * f .form .limit in
     let more : ℕ = f .form .limit - length tag in

@@ -10,7 +10,7 @@ use lib.ListN.{length, getD}
 use lib.Dec.{eqb, ltb}
 use borrow.Author.Tests.{eqb-false}
 use Rattle.lists.specs.Scan.{choose}
-use Rattle.frames.specs.Frame.{FrameOf, rootWord}
+use Rattle.frames.specs.Frame.{FrameOf, rootWord, frame}
 use Rattle.frames.specs.Place.{refOf, recordAt}
 use Rattle.frames.specs.declared.frame.Frame.{Frame}
 use Rattle.records.specs.Own.{totalOf}
@@ -40,7 +40,7 @@ use Rattle.pools.specs.Pool.{lowestFree}
 use Rattle.range.specs.Range.{afterFirst}
 use Rattle.range.specs.declared.After.{After}
 use Rattle.range.specs.declared.After.the-variants as after
-use Rattle.whole.specs.Sound.{frame, Rooted, Sound}
+use Rattle.whole.specs.Sound.{Rooted, Sound}
 use Rattle.reading.specs.Answers.{Bytes}
 use Rattle.reading.specs.Shown.{Shown}
 use Rattle.points.specs.Point.{pointOf}

@@ -12,11 +12,10 @@ use Rattle.frames.specs.Kind.{childrenOf}
 use Rattle.frames.specs.Frame.{rootWord, FrameOf}
 use Rattle.frames.specs.Place.{placeAt, recordAt}
 use Rattle.frames.specs.declared.frame.Frame.{Frame}
-use Rattle.frames.proofs.Frames.{framed}
+use Rattle.frames.proofs.Frames.{framed, caps-most}
 use Rattle.pools.specs.Pool.{lowestFree, freeFrom, freeKind}
 use Rattle.pools.specs.declared.pools.Free.{Free}
 use Rattle.pools.specs.declared.pools.Free.the-variants as free
-use Rattle.pools.proofs.Lowest.{caps-most}
 use Rattle.points.specs.Point.{pointOf}
 use Rattle.points.specs.declared.insert_point.Up.{Up}
 use Rattle.points.specs.declared.insert_point.Point.{Point}

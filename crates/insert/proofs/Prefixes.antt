@@ -13,7 +13,7 @@ use Rattle.prefix.specs.declared.Prefix.{Prefix}
 use Rattle.prefix.proofs.Eights.{eight-all, eight-zeros, eight-own, eight-cut}
 use Rattle.prefix.proofs.Runs.{run-length}
 use Rattle.frames.specs.declared.form.Form.{Form}
-use Rattle.edits.proofs.Inners.{PrefixFits}
+use Rattle.edits.specs.Inner.{PrefixFits}
 
 pub run-fits : (form : Form) (run : List ℕ) → length run ≤ form .limit → all (atMost 255) run ≡ true → PrefixFits form (prefixOf run)
 unfolding prefixOf

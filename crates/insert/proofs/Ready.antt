@@ -9,10 +9,10 @@ use lib.ListN.{length, getD}
 use borrow.Author.Tests.{le-leb}
 use Rattle.lists.specs.Scan.{all, atMost}
 use Rattle.lists.proofs.Tests.{all-by}
-use Rattle.frames.specs.Frame.{rootWord}
+use Rattle.frames.specs.Frame.{rootWord, frame}
 use Rattle.frames.specs.Place.{placeAt, inPool}
 use Rattle.frames.specs.declared.frame.Frame.{Frame}
-use Rattle.frames.proofs.Frames.{framed}
+use Rattle.frames.proofs.Frames.{framed, caps-most}
 use Rattle.records.specs.View.{Held}
 use Rattle.art.specs.Trees.{Tree}
 use Rattle.art.specs.Facts.{height}
@@ -21,10 +21,9 @@ use Rattle.art.specs.Chain.{Links, leaf-ref}
 use Rattle.art.specs.Points.{IntoFits, ForkFits, PointFits, point, store-of}
 use Rattle.art.proofs.Walks.{store-shows}
 use Rattle.art.proofs.FitPoints.{point-fits}
-use Rattle.pools.proofs.Lowest.{caps-most}
 use Rattle.view.proofs.Links.{used-leaf}
 use Rattle.view.proofs.Pools.{free-leaf, kind-free}
-use Rattle.whole.specs.Sound.{frame, Sound}
+use Rattle.whole.specs.Sound.{Sound}
 use Rattle.reading.specs.Answers.{Bytes}
 use Rattle.reading.specs.Shown.{Shown}
 use Rattle.points.specs.Point.{pointOf}

@@ -11,7 +11,7 @@ use lib.Dec.{eqb, ltb}
 use borrow.Author.Tests.{eqb-true, eqb-false, ltb-true, ltb-false}
 use Rattle.lists.specs.Scan.{choose}
 use Rattle.frames.specs.Kind.{childrenOf}
-use Rattle.frames.specs.Frame.{rootWord}
+use Rattle.frames.specs.Frame.{rootWord, frame}
 use Rattle.frames.specs.Place.{placeAt, recordAt}
 use Rattle.frames.specs.declared.frame.Frame.{Frame}
 use Rattle.records.specs.View.{Held}
@@ -35,7 +35,7 @@ use Rattle.view.specs.Pools.{FreeAt, NoneFree}
 use Rattle.view.specs.Links.{linksOf}
 use Rattle.view.proofs.Pools.{none-free, free-leaf, kind-free, kind-none}
 use Rattle.view.proofs.Views.{cell-used}
-use Rattle.whole.specs.Sound.{frame, Sound}
+use Rattle.whole.specs.Sound.{Sound}
 use Rattle.reading.specs.Answers.{Bytes}
 use Rattle.reading.specs.Shown.{Shown}
 use Rattle.range.specs.declared.After.{After}
@@ -59,7 +59,8 @@ use Rattle.insert.specs.declared.plan.Plan.{Plan}
 use Rattle.insert.specs.declared.plan.Plan.the-variants.{Over, New, Clash, NoLeaf, NoRecord, Broken}
 use Rattle.insert.specs.Room.{LeavesFull, InnersFull, Lacks, Lacking, Answers}
 use Rattle.insert.specs.Plan.{growChoice, intoChoice, forkWith, forkChoice, newPlan, sitePlan, leafPlan, pointPlan, planOf}
-use Rattle.insert.proofs.Afters.{afterIs, after-shown}
+use Rattle.range.specs.Range.{afterIs}
+use Rattle.insert.proofs.Afters.{after-shown}
 use Rattle.insert.proofs.Ready.{told-point, told-fits, into-fits}
 use Rattle.insert.proofs.Hangs.{root-not}
 

@@ -5,7 +5,7 @@ use mathlib.Core.List.{List, [], _∷_}
 use mathlib.Core.Option.{Option, none, some}
 use native.Mathlib.Omega.{arith}
 use lib.ListN.{length}
-use Rattle.frames.specs.Frame.{FrameOf, rootWord, countWord}
+use Rattle.frames.specs.Frame.{FrameOf, rootWord, countWord, frame}
 use Rattle.frames.specs.Place.{refOf}
 use Rattle.frames.specs.declared.frame.Frame.{Frame}
 use Rattle.records.specs.View.{Held}
@@ -25,7 +25,7 @@ use Rattle.art.proofs.Chains.{linked-before, linked-in}
 use Rattle.art.proofs.Leaves.{grow-linked}
 use Rattle.view.specs.Links.{linksOf}
 use Rattle.view.proofs.Pools.{free-leaf}
-use Rattle.whole.specs.Sound.{frame, Rooted, Sound}
+use Rattle.whole.specs.Sound.{Rooted, Sound}
 use Rattle.reading.specs.Answers.{Bytes}
 use Rattle.reading.specs.Shown.{Shown}
 use Rattle.writes.specs.Leaf.{keyIn}

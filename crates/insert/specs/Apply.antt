@@ -63,6 +63,7 @@ abbrev pub CutOrLeaf : Frame → List ℕ → Place → (c : ℕ) (t : List ℕ)
 CutOrLeaf f words (leaf-place n) c t d = Unit {0}
 CutOrLeaf f words (inner-place k n) c t d = CutReady f words k n c t d
 
+-- a new branching: the witness obeys its rule, the tag and its tag part within both, and the new place is that of an inner record
 pub record ForkReady (f : Frame) (words keys tag : List ℕ) (up : Up) (below new witness d c leaf : ℕ) : Type 0 where
   pub seen : LeafSeen f words keys witness
   pub inside : d + c < length tag
@@ -73,17 +74,20 @@ pub record ForkReady (f : Frame) (words keys tag : List ℕ) (up : Up) (below ne
   pub to : InnerPlace f (placeAt new)
   pub above : UpThere f (forked f below new tag (tagAt f words keys witness) d c leaf words) up
 
+-- a move into a record with room
 pub record GrowReady (f : Frame) (words : List ℕ) (up : Up) (old new byte leaf : ℕ) : Type 0 where
   pub moves : Moves f words (placeAt old) (placeAt new)
   pub room : Roomy f (moveAt f (placeAt old) (placeAt new) words) (placeAt new)
   pub above : UpThere f (grown f (placeAt old) (placeAt new) byte leaf words) up
 
+-- by the site
 abbrev pub SiteReady : Frame → (words keys tag : List ℕ) → Site → ℕ → Type 0
 SiteReady f words keys tag Root leaf = Unit {0}
 SiteReady f words keys tag (Add ref byte) leaf = Roomy f words (placeAt ref)
 SiteReady f words keys tag (Grow up old new byte) leaf = GrowReady f words up old new byte leaf
 SiteReady f words keys tag (Fork up below new witness d c) leaf = ForkReady f words keys tag up below new witness d c leaf
 
+-- all of it: a leaf of the pool, a tag within the limit, neighbours that are leaves or ends, and a count that a word can hold
 pub record NewReady (f : Frame) (words keys tag : List ℕ) (site : Site) (n : ℕ) (gap : Gap) : Type 0 where
   pub site-ready : SiteReady f words keys tag site (leaf-ref n)
   pub pool : inPool f (leaf-place n) ≡ true

@@ -7,7 +7,7 @@ use lib.ListN.{length}
 use lib.Dec.{ltb}
 use Rattle.lists.specs.Scan.{choose}
 use Rattle.frames.specs.Form.{formOf}
-use Rattle.frames.specs.Frame.{trailerOf, frameOf}
+use Rattle.frames.specs.Frame.{frame}
 use Rattle.frames.specs.Place.{inPool, recordAt}
 use Rattle.frames.specs.declared.frame.Frame.{Frame}
 use Rattle.records.specs.Own.{totalOf}
@@ -55,16 +55,19 @@ PlanReady f words keys tag Broken = Unit {0}
 -- on a block that the check found sound
 unfoldable pub insertSound : (words keys scratch tag : List ℕ) → ℕ → Out
 insertSound words keys scratch tag total =
-    let f = frameOf (trailerOf words) in planned f words keys scratch tag total (planOf f words keys tag)
+    let f = frame words in planned f words keys scratch tag total (planOf f words keys tag)
 
+-- by what the check found
 abbrev pub insertBy : (words keys scratch tag : List ℕ) → ℕ → Checked → Out
 insertBy words keys scratch tag total checked.Sound = insertSound words keys scratch tag total
 insertBy words keys scratch tag total checked.Damaged = out inserted.Damaged words keys scratch
 insertBy words keys scratch tag total checked.ShortScratch = out inserted.ShortScratch words keys scratch
 
+-- the check's answer, and scratch as the check leaves it
 unfoldable pub insertChecked : (words keys tag : List ℕ) → ℕ → check.Answer → Out
 insertChecked words keys tag total c = insertBy words keys (c .scratch) tag total (c .result)
 
+-- a tag over 64 bytes is 2, before anything else is looked at; then the whole check
 unfoldable pub insertOf : (words keys scratch tag : List ℕ) → ℕ → Out
 insertOf words keys scratch tag total =
     choose (ltb (formOf 1 .limit) (length tag)) (out inserted.TooLong words keys scratch) (insertChecked words keys tag total (check.checkOf words keys scratch))

@@ -11,7 +11,8 @@ use Rattle.art.specs.Deletes.{held}
 use Rattle.art.specs.Verdicts.{known, clash, free, judge}
 use Rattle.art.specs.Points.{store-of}
 use Rattle.pools.specs.Pool.{lowestFree}
-use Rattle.whole.specs.Sound.{frame, Sound}
+use Rattle.frames.specs.Frame.{frame}
+use Rattle.whole.specs.Sound.{Sound}
 use Rattle.insert.specs.declared.answer.Inserted.{Inserted}
 use Rattle.insert.specs.declared.answer.Inserted.the-variants as inserted
 use Rattle.insert.specs.Room.{LeavesFull, Lacking}

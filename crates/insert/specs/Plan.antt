@@ -61,10 +61,12 @@ newPlan f words site leaf after.Damaged = Broken
 newPlan f words site leaf after.ShortScratch = Broken
 
 -- ── 4, then 5 ──
+-- 5 where no record is free for it
 abbrev pub sitePlan : Frame → (words keys tag : List ℕ) → ℕ → Choice → Plan
 sitePlan f words keys tag leaf (At site) = newPlan f words site leaf (afterFirst f words keys tag)
 sitePlan f words keys tag leaf Nowhere = NoRecord
 
+-- 4 where no leaf is free
 unfoldable pub leafPlan : Frame → (words keys tag : List ℕ) → Choice → Plan
 leafPlan f words keys tag c =
     choose (ltb (lowestFree f words 5) (getD (f .caps) 5 0)) (sitePlan f words keys tag (lowestFree f words 5) c) NoLeaf

@@ -41,15 +41,15 @@ fn fork(
     up: Up,
     below: u32,
     new: u32,
-    seen: u32,
+    witness: u32,
     d: usize,
     c: usize,
     leaf: u32,
 )
-    requires { ⌜ FrameOf f (now words) (now keys) × (ForkReady f (now words) (now keys) (now tag) up below new seen d c leaf × (0 < leaf)) ⌝ }
-    ensures { λ _. ⌜ (now (words .exit) ≡ linkUp f up new (forked f below new (now (tag .entry)) (tagAt f (now (words .entry)) (now (keys .entry)) seen) d c leaf (now (words .entry)))) × FrameOf f (now (words .exit)) (now (keys .entry)) ⌝ }
+    requires { ⌜ FrameOf f (now words) (now keys) × (ForkReady f (now words) (now keys) (now tag) up below new witness d c leaf × (0 < leaf)) ⌝ }
+    ensures { λ _. ⌜ (now (words .exit) ≡ linkUp f up new (forked f below new (now (tag .entry)) (tagAt f (now (words .entry)) (now (keys .entry)) witness) d c leaf (now (words .entry)))) × FrameOf f (now (words .exit)) (now (keys .entry)) ⌝ }
 {
-    let t = witness::tag_at(words, keys, f, seen);
+    let t = witness::tag_at(words, keys, f, witness);
     let e = d + c;
     let b = tag[e];
     let o = t[e];
@@ -88,8 +88,8 @@ fn hang(words: &mut [u32], keys: &[u8], f: Frame, tag: &[u8], site: Site, leaf: 
             grow(words, keys, f, up, old, new, byte, leaf);
             return;
         }
-        Site::Fork(up, below, new, seen, d, c) => {
-            fork(words, keys, f, tag, up, below, new, seen, d, c, leaf);
+        Site::Fork(up, below, new, witness, d, c) => {
+            fork(words, keys, f, tag, up, below, new, witness, d, c, leaf);
             return;
         }
     }

@@ -2,7 +2,7 @@
 use Prim.Native.Nat.{ℕ, zero, suc, _+_, _≤_, _<_, min}
 use mathlib.Core.Path.{_≡_, refl, sym, ap, _∙_}
 use mathlib.Core.List.{List, [], _∷_, _++_}
-use mathlib.Core.Bool.{Bool, true, false, _&&_, _||_, or-false, true≢false, false≢true}
+use mathlib.Core.Bool.{Bool, true, false, _&&_, _||_, and-assoc, and-true, and-self, or-false, true≢false, false≢true}
 use native.Mathlib.Decide.{decLt}
 use native.Mathlib.Omega.{arith}
 use borrow.Author.Tests.{eqb-true, eqb-false, eq-eqb, ne-eqb, lt-ltb, le-ltb}
@@ -160,6 +160,41 @@ begins-shared (x ∷ xs) (y ∷ ys) = go (eqb x y) (begins-shared xs ys)
     go : (b : Bool) → begins xs ys ≡ eqb (shared xs ys) (length xs) → b && begins xs ys ≡ eqb (pick b (suc (shared xs ys)) 0) (suc (length xs))
     go true ih = rw (eqb·suc-suc (shared xs ys) (length xs)) ih
     go false ih = sym (eqb·zero-suc (length xs))
+
+-- no list begins a shorter one
+pub begins-long : (s t : List ℕ) → length t < length s → false ≡ begins s t
+begins-long s t h = sym (begins-shared s t ∙ ne-eqb (shared s t) (length s) (omega (arith, shared-le s t)))
+
+-- of two lists of one length that begins the other exactly where they are the same
+pub same-begins : (s t : List ℕ) → length s ≡ length t → begins s t ≡ same s t
+same-begins s t h =
+    let b = eqb (shared s t) (length s) in
+    begins-shared s t ∙ sym (and-self b) ∙ ap (λ (n : ℕ). b && eqb (shared s t) n) h ∙ sym (same-shared s t)
+
+-- the left begins the right, which is no shorter: `ok` says whether they agree before i
+pub record Begins (s t : List ℕ) (i : ℕ) (ok : Bool) : Type 0 where
+  pub within : i ≤ length s
+  pub fits : length s ≤ length t
+  pub left : begins s t ≡ ok && begins (drop i s) (drop i t)
+
+pub begins-start : {s t : List ℕ} → length s ≤ length t → Begins s t 0 true
+begins-start h = record { within = omega arith; fits = h; left = refl }
+
+module _ {s t : List ℕ} {i : ℕ} {ok : Bool} (r : Begins s t i ok) where
+  pub begins-on : i < length s → Begins s t (i + 1) (ok && eqb (getD s i 0) (getD t i 0))
+  begins-on h =
+      let x = getD s i 0 in
+      let y = getD t i 0 in
+      let e : begins (drop i s) (drop i t) ≡ eqb x y && begins (drop (i + 1) s) (drop (i + 1) t) =
+      ap (λ (l : List ℕ). begins l (drop i t)) (step s i h) ∙ ap (begins (x ∷ drop (i + 1) s)) (step t i (omega (arith, r .fits))) in
+      record {
+        within = omega arith;
+        fits = r .fits;
+        left = r .left ∙ ap (λ (b : Bool). ok && b) e ∙ sym (and-assoc ok (eqb x y) (begins (drop (i + 1) s) (drop (i + 1) t)));
+      }
+
+  pub begins-end : length s ≤ i → ok ≡ begins s t
+  begins-end h = sym (r .left ∙ ap (λ (l : List ℕ). ok && begins l (drop i t)) (drop-of-length-le s h) ∙ and-true ok)
 
 -- and so the right goes on from it, and back
 pub begins-rest : (s t : List ℕ) → begins s t ≡ true → (z : List ℕ) × (t ≡ s ++ z)

@@ -3,12 +3,13 @@
 use Prim.Native.Nat.{ℕ, zero, suc, _+_, _-_, _≤_, _<_}
 use mathlib.Core.Path.{_≡_, refl, sym, ap, _∙_}
 use mathlib.Core.List.{List, [], _∷_, _++_}
-use mathlib.Core.Bool.{Bool, true, false, _&&_}
+use mathlib.Core.Bool.{Bool, true, false, _&&_, and-assoc, and-true}
 use native.Mathlib.Numerals.{add-one}
 use native.Mathlib.Omega.{arith}
+use borrow.Author.Tests.{le-leb}
 use lib.ListN.{length, getD, take, drop, drop-of-length-le}
 use lib.Seq.{drop-cons, take-suc, take-length, length-take-le}
-use lib.Dec.{leb}
+use lib.Dec.{leb, ltb}
 use Rattle.lists.specs.Scan.{choose, all, first, past, onward, nth, count, rises}
 
 -- what is left at i, its front element first
@@ -23,23 +24,21 @@ step-back s i z h = ap (λ (n : ℕ). take n s) (let q : i ≡ suc (i - 1) = ome
 abbrev pub pick : Bool → ℕ → ℕ → ℕ
 pick b m n = elim b [ true ↦ m | false ↦ n ]
 
--- every element passes
-pub record All (p : ℕ → Bool) (s : List ℕ) (i : ℕ) : Type 0 where
+-- every element passes: `ok` says whether those before i do
+pub record All (p : ℕ → Bool) (s : List ℕ) (i : ℕ) (ok : Bool) : Type 0 where
   pub within : i ≤ length s
-  pub left : all p s ≡ all p (drop i s)
+  pub left : all p s ≡ ok && all p (drop i s)
 
-pub all-start : {p : ℕ → Bool} {s : List ℕ} → All p s 0
+pub all-start : {p : ℕ → Bool} {s : List ℕ} → All p s 0 true
 all-start = record { within = omega arith; left = refl }
 
-module _ {p : ℕ → Bool} {s : List ℕ} {i : ℕ} (r : All p s i) where
-  pub all-on : p (getD s i 0) ≡ true → i < length s → All p s (i + 1)
-  all-on t h = record { within = omega arith; left = r .left ∙ ap (all p) (step s i h) ∙ ap (λ (b : Bool). b && all p (drop (i + 1) s)) t }
+module _ {p : ℕ → Bool} {s : List ℕ} {i : ℕ} {ok : Bool} (r : All p s i ok) where
+  pub all-on : i < length s → All p s (i + 1) (ok && p (getD s i 0))
+  all-on h =
+      record { within = omega arith; left = r .left ∙ ap (λ (l : List ℕ). ok && all p l) (step s i h) ∙ sym (and-assoc ok (p (getD s i 0)) (all p (drop (i + 1) s))) }
 
-  pub all-off : p (getD s i 0) ≡ false → i < length s → false ≡ all p s
-  all-off t h = sym (r .left ∙ ap (all p) (step s i h) ∙ ap (λ (b : Bool). b && all p (drop (i + 1) s)) t)
-
-  pub all-end : length s ≤ i → true ≡ all p s
-  all-end h = sym (r .left ∙ ap (all p) (drop-of-length-le s h))
+  pub all-end : length s ≤ i → ok ≡ all p s
+  all-end h = sym (r .left ∙ ap (λ (l : List ℕ). ok && all p l) (drop-of-length-le s h) ∙ and-true ok)
 
 -- the first that passes
 pub record First (p : ℕ → Bool) (s : List ℕ) (i : ℕ) : Type 0 where
@@ -90,33 +89,33 @@ module _ {p : ℕ → Bool} {s : List ℕ} {i n : ℕ} (r : Count p s i n) where
       let q : count p (drop i s) ≡ 0 = ap (count p) (drop-of-length-le s h) in
       omega arith
 
--- ascending bytes: those from i on ascend from b
-pub record Rises (lo : ℕ) (s : List ℕ) (i b : ℕ) : Type 0 where
+-- ascending bytes: `ok` says whether those before i ascend, and x is the last of them
+pub record Rises (s : List ℕ) (i x : ℕ) (ok : Bool) : Type 0 where
   pub within : i ≤ length s
-  pub small : b ≤ 256
-  pub left : rises lo s ≡ rises b (drop i s)
+  pub left : rises 0 s ≡ ok && rises (x + 1) (drop i s)
 
-pub rises-start : {lo : ℕ} {s : List ℕ} → lo ≤ 256 → Rises lo s 0 lo
-rises-start h = record { within = omega arith; small = h; left = refl }
+pub rises-none : (s : List ℕ) → length s ≡ 0 → true ≡ rises 0 s
+rises-none [] e = refl
+rises-none (x ∷ xs) e = absurd (omega arith)
 
-module _ {lo : ℕ} {s : List ℕ} {i b : ℕ} (r : Rises lo s i b) where
-  pub rises-on : leb b (getD s i 0) ≡ true → leb (getD s i 0) 255 ≡ true → getD s i 0 ≤ 255 → i < length s → Rises lo s (i + 1) (getD s i 0 + 1)
-  rises-on t u k h =
-      let rest = rises (getD s i 0 + 1) (drop (i + 1) s) in
-      record { within = omega arith; small = omega arith; left = r .left ∙ ap (rises b) (step s i h) ∙ ap (λ (a : Bool). a && (leb (getD s i 0) 255 && rest)) t ∙ ap (λ (a : Bool). a && rest) u }
+pub rises-start : (s : List ℕ) → (length s ≡ 0 → ⊥) → Rises s 1 (getD s 0 0) (leb (getD s 0 0) 255)
+rises-start [] h = absurd (h refl)
+rises-start (x ∷ xs) h = record { within = omega arith; left = ap (λ (b : Bool). b && (leb x 255 && rises (x + 1) xs)) (le-leb 0 x (omega arith)) }
 
-  pub rises-low : leb b (getD s i 0) ≡ false → i < length s → false ≡ rises lo s
-  rises-low t h =
-      let rest = rises (getD s i 0 + 1) (drop (i + 1) s) in
-      sym (r .left ∙ ap (rises b) (step s i h) ∙ ap (λ (a : Bool). a && (leb (getD s i 0) 255 && rest)) t)
+module _ {s : List ℕ} {i x : ℕ} {ok : Bool} (r : Rises s i x ok) where
+  pub rises-on : i < length s → Rises s (i + 1) (getD s i 0) (ok && ltb x (getD s i 0) && leb (getD s i 0) 255)
+  rises-on h =
+      let y = getD s i 0 in
+      let rest = leb y 255 && rises (y + 1) (drop (i + 1) s) in
+      let e : ok && rises (x + 1) (drop i s) ≡ ok && (ltb x y && rest) =
+      ap (λ (l : List ℕ). ok && rises (x + 1) l) (step s i h) ∙ ap (λ (n : ℕ). ok && (leb n y && rest)) (add-one x) in
+      record {
+        within = omega arith;
+        left = r .left ∙ e ∙ sym (and-assoc ok (ltb x y) rest) ∙ sym (and-assoc (ok && ltb x y) (leb y 255) (rises (y + 1) (drop (i + 1) s)));
+      }
 
-  pub rises-high : leb b (getD s i 0) ≡ true → leb (getD s i 0) 255 ≡ false → i < length s → false ≡ rises lo s
-  rises-high t u h =
-      let rest = rises (getD s i 0 + 1) (drop (i + 1) s) in
-      sym (r .left ∙ ap (rises b) (step s i h) ∙ ap (λ (a : Bool). a && (leb (getD s i 0) 255 && rest)) t ∙ ap (λ (a : Bool). a && rest) u)
-
-  pub rises-end : length s ≤ i → true ≡ rises lo s
-  rises-end h = sym (r .left ∙ ap (rises b) (drop-of-length-le s h))
+  pub rises-end : length s ≤ i → ok ≡ rises 0 s
+  rises-end h = sym (r .left ∙ ap (λ (l : List ℕ). ok && rises (x + 1) l) (drop-of-length-le s h) ∙ and-true ok)
 
 -- the place after the last that passes: none from i on does
 pub record Past (p : ℕ → Bool) (s : List ℕ) (i : ℕ) : Type 0 where

@@ -1,7 +1,7 @@
--- A list with one element shifted in or out; it keeps its length.
-use Prim.Native.Nat.{ℕ}
+-- A list with one element shifted in or out, which keeps its length, and one filled up with 0.
+use Prim.Native.Nat.{ℕ, _-_}
 use mathlib.Core.List.{List, [], _∷_, _++_}
-use lib.ListN.{take, drop}
+use lib.ListN.{length, take, drop, replicate}
 
 -- x in front, each element one place on, the last lost
 abbrev pub pushIn : ℕ → List ℕ → List ℕ
@@ -21,3 +21,7 @@ shiftIn at x s = take at s ++ pushIn x (drop at s)
 -- the element at `at` taken out, 0 after the last
 unfoldable pub shiftOut : ℕ → List ℕ → List ℕ
 shiftOut at s = take at s ++ pullOut (drop at s) 0
+
+-- these, and 0 up to k places
+abbrev pub padded : ℕ → List ℕ → List ℕ
+padded k l = l ++ replicate (k - length l) 0

@@ -46,16 +46,26 @@ pub fn shared_words(s: &[u32], t: &[u8]) -> usize
 pub fn same_bytes(s: &[u8], t: &[u8]) -> bool
     ensures { λ r. ⌜ r ≡ same (now (s .entry)) (now (t .entry)) ⌝ }
 {
-    let n = shared_bytes(s, t);
-    (n == s.len()) & (n == t.len())
+    if s.len() != t.len() {
+        return false;
+    }
+    begins_bytes(s, t)
 }
 
 // `s` begins `t`.
 pub fn begins_bytes(s: &[u8], t: &[u8]) -> bool
     ensures { λ r. ⌜ r ≡ begins (now (s .entry)) (now (t .entry)) ⌝ }
 {
-    let n = shared_bytes(s, t);
-    n == s.len()
+    if t.len() < s.len() {
+        return false;
+    }
+    let mut i = 0;
+    let mut ok = true;
+    while i < s.len() {
+        ok = ok & (s[i] == t[i]);
+        i += 1;
+    }
+    ok
 }
 
 // `s` comes before `t` in unsigned byte order, where a run comes after those that begin it.

@@ -1,4 +1,5 @@
-// Tests of every element, the first or last place that passes, and counts.
+// Tests of every element, the first or last place that passes, and counts. The tests look at every element, with no early return: in that form the compiler
+// takes several elements at a time.
 ghost use mathlib.Core.Path.{_≡_};
 ghost use Rattle.lists.specs.Scan.{is, atMost, atLeast, nonzero, all, first, past, nth, count, rises};
 
@@ -7,13 +8,12 @@ pub fn all_at_most(s: &[u32], b: u32) -> bool
     ensures { λ r. ⌜ r ≡ all (atMost b) (now (s .entry)) ⌝ }
 {
     let mut i = 0;
+    let mut ok = true;
     while i < s.len() {
-        if s[i] > b {
-            return false;
-        }
+        ok = ok & (s[i] <= b);
         i += 1;
     }
-    true
+    ok
 }
 
 // Each byte is 0.
@@ -21,13 +21,12 @@ pub fn bytes_zero(s: &[u8]) -> bool
     ensures { λ r. ⌜ r ≡ all (atMost 0) (now (s .entry)) ⌝ }
 {
     let mut i = 0;
+    let mut ok = true;
     while i < s.len() {
-        if s[i] > 0 {
-            return false;
-        }
+        ok = ok & (s[i] <= 0);
         i += 1;
     }
-    true
+    ok
 }
 
 // No word is 0.
@@ -35,33 +34,31 @@ pub fn none_zero(s: &[u32]) -> bool
     ensures { λ r. ⌜ r ≡ all nonzero (now (s .entry)) ⌝ }
 {
     let mut i = 0;
+    let mut ok = true;
     while i < s.len() {
-        if s[i] <= 0 {
-            return false;
-        }
+        ok = ok & (0 < s[i]);
         i += 1;
     }
-    true
+    ok
 }
 
 // Strictly ascending bytes, one a word.
 pub fn rising(s: &[u32]) -> bool
     ensures { λ r. ⌜ r ≡ rises 0 (now (s .entry)) ⌝ }
 {
-    let mut i = 0;
-    let mut lo: u32 = 0;
+    if s.len() == 0 {
+        return true;
+    }
+    let mut lo = s[0];
+    let mut ok = lo <= 255;
+    let mut i = 1;
     while i < s.len() {
         let x = s[i];
-        if x < lo {
-            return false;
-        }
-        if x > 255 {
-            return false;
-        }
-        lo = x + 1;
+        ok = ok & (lo < x) & (x <= 255);
+        lo = x;
         i += 1;
     }
-    true
+    ok
 }
 
 // The place of the first word that is `x`, or the length.

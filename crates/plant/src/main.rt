@@ -4,7 +4,14 @@ use directory_c::DirectoryChanged;
 use directory_c::DirectoryFound;
 use libc::STDOUT_FILENO;
 
+// The memory is for 10 records of kind 1, one of kind 2 and the leaves: 10 × 19 + 43 + 14 × 6 + 16 words, 64 key bytes a leaf, a scratch byte a record.
 const TAGS: u32 = 14;
+
+const WORDS: usize = 333;
+
+const KEYS: usize = 896;
+
+const SCRATCH: usize = 25;
 
 fn say(text: &[u8]) {
     io::write_all(STDOUT_FILENO, text);
@@ -76,47 +83,77 @@ fn say_found(words: &[u32], keys: &[u8], a: DirectoryFound) {
     say(b"\n");
 }
 
-fn insert(words: &mut [u32], keys: &mut [u8], scratch: &mut [u8], tag: &[u8], total: u64) {
-    let a = directory_c::directory_insert(words, keys, scratch, tag, total);
-    say(b"insert ");
+// Scratch is lent for one call, so each call that wants it has its own.
+fn put(words: &mut [u32], keys: &mut [u8], tag: &[u8], total: u64) -> DirectoryChanged {
+    let mut scratch = [0u8; SCRATCH];
+    directory_c::directory_insert(words, keys, &mut scratch, tag, total)
+}
+
+fn take_out(words: &mut [u32], keys: &mut [u8], tag: &[u8]) -> DirectoryChanged {
+    let mut scratch = [0u8; SCRATCH];
+    directory_c::directory_delete(words, keys, &mut scratch, tag)
+}
+
+fn first_from(words: &[u32], keys: &[u8], tag: &[u8]) -> DirectoryFound {
+    let mut scratch = [0u8; SCRATCH];
+    directory_c::directory_first_at_or_after(words, keys, &mut scratch, tag)
+}
+
+fn whole(words: &[u32], keys: &[u8]) -> u32 {
+    let mut scratch = [0u8; SCRATCH];
+    directory_c::directory_check(words, keys, &mut scratch)
+}
+
+fn say_total(call: &[u8], tag: &[u8], between: &[u8], total: u64) {
+    say(call);
     say(tag);
-    say(b" with ");
+    say(between);
     say_number(total);
+}
+
+fn insert(words: &mut [u32], keys: &mut [u8], tag: &[u8], total: u64) {
+    say_total(b"insert ", tag, b" with ", total);
+    let a = put(words, keys, tag, total);
     say_answer(a.number);
 }
 
-fn set_again(words: &mut [u32], keys: &mut [u8], scratch: &mut [u8], tag: &[u8], total: u64) {
-    say(b"set ");
-    say(tag);
-    say(b" to ");
-    say_number(total);
-    say_had(directory_c::directory_insert(words, keys, scratch, tag, total));
+fn set_again(words: &mut [u32], keys: &mut [u8], tag: &[u8], total: u64) {
+    say_total(b"set ", tag, b" to ", total);
+    say_had(put(words, keys, tag, total));
 }
 
-fn scrap(words: &mut [u32], keys: &mut [u8], scratch: &mut [u8], tag: &[u8]) {
-    say(b"scrap ");
+fn say_call(call: &[u8], tag: &[u8]) {
+    say(call);
     say(tag);
-    say_had(directory_c::directory_delete(words, keys, scratch, tag));
+}
+
+fn scrap(words: &mut [u32], keys: &mut [u8], tag: &[u8]) {
+    say_call(b"scrap ", tag);
+    say_had(take_out(words, keys, tag));
 }
 
 fn search(words: &[u32], keys: &[u8], tag: &[u8]) {
-    say(b"search ");
-    say(tag);
+    say_call(b"search ", tag);
     say_found(words, keys, directory_c::directory_search(words, keys, tag));
 }
 
 fn prefix_search(words: &[u32], keys: &[u8], text: &[u8]) {
-    let a = directory_c::directory_prefix_search(words, keys, text);
-    say(b"prefix search ");
-    say(text);
-    say_found(words, keys, a);
+    say_call(b"prefix search ", text);
+    say_found(
+        words,
+        keys,
+        directory_c::directory_prefix_search(words, keys, text),
+    );
 }
 
-fn at_or_after(words: &[u32], keys: &[u8], scratch: &mut [u8], tag: &[u8]) {
-    let a = directory_c::directory_first_at_or_after(words, keys, scratch, tag);
-    say(b"first at or after ");
-    say(tag);
-    say_found(words, keys, a);
+fn at_or_after(words: &[u32], keys: &[u8], tag: &[u8]) {
+    say_call(b"first at or after ", tag);
+    say_found(words, keys, first_from(words, keys, tag));
+}
+
+fn check(words: &[u32], keys: &[u8]) {
+    say(b"check");
+    say_answer(whole(words, keys));
 }
 
 fn lowest_and_highest(words: &[u32], keys: &[u8]) {
@@ -180,68 +217,74 @@ fn listing(words: &[u32], keys: &[u8]) {
     say(b"\n");
 }
 
-fn line_14_in(words: &mut [u32], keys: &mut [u8], scratch: &mut [u8]) {
-    insert(words, keys, scratch, b"L14/P2/FLOW", 97310);
-    insert(words, keys, scratch, b"L14/P1/FLOW", 184205);
-    insert(words, keys, scratch, b"L14/SUMP/LEVEL", 312);
-    insert(words, keys, scratch, b"L14/SUMP/INFLOW", 461980);
+// A tag with blanks behind it, its length, and its total.
+struct Row(pub [u8; 15], pub usize, pub u64);
+
+// What is put in. Of the last two, the first begins a held tag, and for the other there is no room.
+const ROWS: [Row; 16] = [
+    Row(*b"L14/P2/FLOW    ", 11, 97310),
+    Row(*b"L14/P1/FLOW    ", 11, 184205),
+    Row(*b"L14/SUMP/LEVEL ", 14, 312),
+    Row(*b"L14/SUMP/INFLOW", 15, 461980),
+    Row(*b"L15/P1/FLOW    ", 11, 203511),
+    Row(*b"L15/P1/RUN     ", 10, 1760),
+    Row(*b"L15/P2/FLOW    ", 11, 199402),
+    Row(*b"L15/SUMP/LEVEL ", 14, 287),
+    Row(*b"L17/P1/FLOW    ", 11, 51877),
+    Row(*b"L16/P1/FLOW    ", 11, 8630),
+    Row(*b"L18/P1/FLOW    ", 11, 120044),
+    Row(*b"L18/P1/RUN     ", 10, 4012),
+    Row(*b"W1/INTAKE/FLOW ", 14, 905128),
+    Row(*b"W1/INTAKE/LEVEL", 15, 1698),
+    Row(*b"L14/P1         ", 6, 1),
+    Row(*b"L16/P2/FLOW    ", 11, 2),
+];
+
+// The tag is the first n bytes of the text.
+fn insert_front(words: &mut [u32], keys: &mut [u8], text: &[u8], n: usize, total: u64) {
+    if n <= text.len() {
+        insert(words, keys, &text[0..n], total);
+    }
 }
 
-fn line_15_in(words: &mut [u32], keys: &mut [u8], scratch: &mut [u8]) {
-    insert(words, keys, scratch, b"L15/P1/FLOW", 203511);
-    insert(words, keys, scratch, b"L15/P1/RUN", 1760);
-    insert(words, keys, scratch, b"L15/P2/FLOW", 199402);
-    insert(words, keys, scratch, b"L15/SUMP/LEVEL", 287);
+// Lent as an array, a text of the table has a length that is known.
+fn insert_row(words: &mut [u32], keys: &mut [u8], tag: &[u8; 15], n: usize, total: u64) {
+    insert_front(words, keys, tag, n, total);
 }
 
-fn pumps_in(words: &mut [u32], keys: &mut [u8], scratch: &mut [u8]) {
-    insert(words, keys, scratch, b"L17/P1/FLOW", 51877);
-    insert(words, keys, scratch, b"L16/P1/FLOW", 8630);
-    insert(words, keys, scratch, b"L18/P1/FLOW", 120044);
-    insert(words, keys, scratch, b"L18/P1/RUN", 4012);
+fn fill(words: &mut [u32], keys: &mut [u8]) {
+    let mut i = 0;
+    while i < 16 {
+        let row = ROWS[i];
+        let tag = row.0;
+        insert_row(words, keys, &tag, row.1, row.2);
+        i += 1;
+    }
 }
 
-// The last two; then one that begins a held tag, and one more than there is room for.
-fn last_in(words: &mut [u32], keys: &mut [u8], scratch: &mut [u8]) {
-    insert(words, keys, scratch, b"W1/INTAKE/FLOW", 905128);
-    insert(words, keys, scratch, b"W1/INTAKE/LEVEL", 1698);
-    insert(words, keys, scratch, b"L14/P1", 1);
-    insert(words, keys, scratch, b"L16/P2/FLOW", 2);
-}
-
-fn fill(words: &mut [u32], keys: &mut [u8], scratch: &mut [u8]) {
-    line_14_in(words, keys, scratch);
-    line_15_in(words, keys, scratch);
-    pumps_in(words, keys, scratch);
-    last_in(words, keys, scratch);
-}
-
-fn read(words: &[u32], keys: &[u8], scratch: &mut [u8]) {
+fn read(words: &[u32], keys: &[u8]) {
     search(words, keys, b"L14/P2/FLOW");
     search(words, keys, b"L14/P9/FLOW");
     prefix_search(words, keys, b"L15/P1/RUN 06:00");
-    at_or_after(words, keys, scratch, b"L14/Q");
-    at_or_after(words, keys, scratch, b"X");
+    at_or_after(words, keys, b"L14/Q");
+    at_or_after(words, keys, b"X");
     lowest_and_highest(words, keys);
 }
 
-fn change(words: &mut [u32], keys: &mut [u8], scratch: &mut [u8]) {
-    scrap(words, keys, scratch, b"L17/P1/FLOW");
-    scrap(words, keys, scratch, b"L17/P1/FLOW");
-    set_again(words, keys, scratch, b"L14/P2/FLOW", 97355);
-    say(b"check");
-    say_answer(directory_c::directory_check(words, keys, scratch));
+fn change(words: &mut [u32], keys: &mut [u8]) {
+    scrap(words, keys, b"L17/P1/FLOW");
+    scrap(words, keys, b"L17/P1/FLOW");
+    set_again(words, keys, b"L14/P2/FLOW", 97355);
+    check(words, keys);
 }
 
-// The memory is for 10 records of kind 1, one of kind 2 and the leaves: 10 × 19 + 43 + 14 × 6 + 16 words, 64 key bytes a leaf, a scratch byte a record.
 fn main() {
-    let mut words = [0u32; 333];
-    let mut keys = [0u8; 896];
-    let mut scratch = [0u8; 25];
+    let mut words = [0u32; WORDS];
+    let mut keys = [0u8; KEYS];
     say(b"start");
     say_answer(directory_c::directory_start(&mut words, &mut keys, 10, 1, 0, 0, TAGS));
-    fill(&mut words, &mut keys, &mut scratch);
-    read(&words, &keys, &mut scratch);
-    change(&mut words, &mut keys, &mut scratch);
+    fill(&mut words, &mut keys);
+    read(&words, &keys);
+    change(&mut words, &mut keys);
     listing(&words, &keys);
 }

@@ -30,7 +30,7 @@ use Rattle.art.specs.Stores.{Place, leaf-place, inner-place, Cell, leaf-cell, U
 use Rattle.art.specs.Refs.{find-ref}
 use Rattle.art.specs.Walks.{Shows}
 use Rattle.art.specs.Points as art
-use Rattle.view.specs.Seen.{InnerSeen}
+use Rattle.view.specs.Seen.{InnerShows}
 use Rattle.view.proofs.Seen.{seen-inner, inner-obeys}
 use Rattle.reading.specs.Shown.{Shown}
 use Rattle.reading.specs.Answers.{Bytes}
@@ -84,7 +84,7 @@ module _ {f : Frame} {words keys : List ℕ} (w : FrameOf f words keys) (rules :
       next : ℕ
       next = childAt (f .form) k (recordAt f words (inner-place k n)) byte
 
-      s : InnerSeen f words k n (length run) (take 8 run) (refs r)
+      s : InnerShows f words k n (length run) (take 8 run) (refs r)
       s = seen-inner f words keys k n (length run) (take 8 run) (refs r) (h .0)
 
       next-is : next ≡ refFor byte row

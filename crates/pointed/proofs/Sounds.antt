@@ -3,7 +3,7 @@ use Prim.Native.Nat.{ℕ}
 use mathlib.Core.Path.{_≡_, refl, sym, ap, subst, _∙_}
 use mathlib.Core.List.{List, []}
 use mathlib.Core.Option.{Option, none, some}
-use Rattle.frames.specs.Frame.{rootWord}
+use Rattle.frames.specs.Frame.{rootWord, frame}
 use Rattle.frames.specs.Place.{placeAt}
 use Rattle.frames.proofs.Places.{place-ref}
 use Rattle.records.specs.View.{Held, cellOf}
@@ -12,7 +12,7 @@ use Rattle.art.specs.Stores.{Place, Used, root}
 use Rattle.art.specs.Points.{store-of}
 use Rattle.art.proofs.Stores.{own}
 use Rattle.reading.specs.Shown as shown
-use Rattle.whole.specs.Sound.{frame, Rooted, Sound}
+use Rattle.whole.specs.Sound.{Rooted, Sound}
 use Rattle.whole.proofs.Sounds.{used-pool}
 
 pub sound-shown : {words keys : List ℕ} (s : Sound words keys) → shown.Shown (frame words) words keys (s .tree)
@@ -26,7 +26,7 @@ sound-shown {words} {keys} s = record {
   linked = s .linked;
 }
   where
-    rooted : (d : Option (Tree Held)) → ((x : Place) → cellOf (frame words) words keys x ≡ store-of d x) → Rooted (rootWord words) d → shown.Rooted (rootWord words) d
+    rooted : (d : Option (Tree Held)) → ((x : Place) → cellOf (frame words) words keys x ≡ store-of d x) → Rooted (rootWord words) d → shown.RootAt (rootWord words) d
     rooted none cells e = e
     rooted (some t) cells e =
         let u : Used (cellOf (frame words) words keys (root t)) = subst Used (sym (cells (root t))) (own t []) in

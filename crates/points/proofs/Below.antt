@@ -7,6 +7,7 @@ use borrow.Author.Tests.{ltb-true}
 use lib.ListN.{getD}
 use Rattle.frames.specs.Frame.{FrameOf}
 use Rattle.frames.specs.Place.{placeAt, startAt}
+use Rattle.frames.proofs.Frames.{framed, caps-most}
 use Rattle.frames.specs.declared.frame.Frame.{Frame}
 use Rattle.records.specs.View.{ruleAt}
 use Rattle.tree.specs.Arrive.{arrivalAt}
@@ -19,7 +20,6 @@ use Rattle.tree.specs.declared.minmax.Edge.{Edge}
 use Rattle.tree.specs.declared.minmax.EdgeStep.{EdgeStep}
 use Rattle.tree.specs.declared.minmax.EdgeStep.the-variants.{Next, Final}
 use Rattle.tree.proofs.Arrivals.{leaf-named, arrive-leaf}
-use Rattle.tree.proofs.Leaves.{leaf-most}
 use Rattle.whole.specs.Witness.{LeafSeen}
 use Rattle.whole.proofs.Turning.{leaf-arrived}
 use Rattle.whole.proofs.Witnesses.{seen-pool}
@@ -87,4 +87,4 @@ module _ (f : Frame) (words keys : List ℕ) where
   pub lowest-small : FrameOf f words keys → (ref n total : ℕ) → lowestOf f words keys ref ≡ found.Leaf n total → n ≤ 4096
   lowest-small w ref n total e =
       let l : LeafSeen f words keys (n * 8 + 5) = subst FoundSeen e (edge-seen _ (f .form .limit) ref) in
-      omega (arith, ltb-true ((n * 8 + 5) / 8) (getD (f .caps) 5 0) (l .pool), leaf-most w)
+      omega (arith, ltb-true ((n * 8 + 5) / 8) (getD (f .caps) 5 0) (l .pool), caps-most (framed w) 5 (omega arith))

@@ -13,11 +13,10 @@ use Rattle.frames.specs.Form.{recordWords}
 use Rattle.frames.specs.Frame.{FrameOf}
 use Rattle.frames.specs.Place.{placeAt, inPool, startAt, sizeAt, recordAt}
 use Rattle.frames.specs.declared.frame.Frame.{Frame}
-use Rattle.frames.proofs.Frames.{framed}
+use Rattle.frames.proofs.Frames.{framed, caps-most}
 use Rattle.frames.proofs.Places.{place-leaf, place-room}
 use Rattle.records.specs.Own.{InnerFits}
 use Rattle.art.specs.Stores.{leaf-place, inner-place}
-use Rattle.pools.proofs.Lowest.{caps-most}
 use Rattle.view.specs.Cells.{kindAt}
 use Rattle.tree.proofs.Arrivals.{inner-named}
 use Rattle.points.specs.There.{InnerHere}

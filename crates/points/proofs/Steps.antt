@@ -116,10 +116,11 @@ module _ (f : Frame) (words keys tag : List ℕ) (ref d : ℕ) (p : Prefix) wher
   unfolding runOf
   run-long h e = e ∙ simp (lt-leb (p .full .0) 8 h)
 
-  pub run-short : p .full .0 ≤ 8 → {c : ℕ} → c ≡ shared (between (p .stored) 0 (p .full .0)) (between tag d (length tag)) → Agrees c ≡ runOf f words keys tag ref d p
+  pub run-short : p .full .0 ≤ 8 → {c k : ℕ} → k ≡ capped (p .full .0) → c ≡ shared (between (p .stored) 0 k) (between tag d (length tag))
+      → Agrees c ≡ runOf f words keys tag ref d p
   unfolding runOf
-  run-short h {c} e =
-      let z : p .full .0 - 0 ≡ capped (p .full .0) = omega arith in
+  run-short h {c} {k} s e =
+      let z : k - 0 ≡ capped (p .full .0) = omega arith in
       let q : c ≡ shared (held p) (drop d tag) =
       e ∙ ap (λ (n : ℕ). shared (take n (p .stored)) (between tag d (length tag))) z ∙ ap (shared (held p)) (rest-of tag d) in
       ap Agrees q ∙ simp (le-leb (p .full .0) 8 h)

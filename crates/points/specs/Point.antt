@@ -1,5 +1,5 @@
 -- The point of a tag: the way down from the root, on any words and key bytes.
-use Prim.Native.Nat.{ℕ, zero, suc, _+_, _*_}
+use Prim.Native.Nat.{ℕ, zero, suc, _+_}
 use mathlib.Core.List.{List}
 use lib.ListN.{length, getD, take, drop}
 use lib.Dec.{eqb, leb}
@@ -12,6 +12,7 @@ use Rattle.frames.specs.Form.{recordWords}
 use Rattle.frames.specs.Place.{placeAt}
 use Rattle.frames.specs.declared.frame.Frame.{Frame}
 use Rattle.records.specs.Own.{prefixAt, childAt}
+use Rattle.art.specs.Chain.{leaf-ref}
 use Rattle.tree.specs.Arrive.{arrivalAt}
 use Rattle.tree.specs.Edge.{edgeOf}
 use Rattle.tree.specs.declared.answer.Found.{Found}
@@ -43,14 +44,14 @@ lowestOf f words keys ref = edgeOf f words keys Low (f .form .limit) ref
 
 -- its reference; 0 where the way to it is broken
 abbrev pub leafRef : Found → ℕ
-leafRef (found.Leaf n total) = n * 8 + 5
+leafRef (found.Leaf n total) = leaf-ref n
 leafRef found.Missing = 0
 leafRef found.Damaged = 0
 leafRef found.NoLeaf = 0
 
 -- how many bytes of a run of this length are the tag's from depth d on, read from a leaf below
 abbrev pub runBelow : Frame → (words keys tag : List ℕ) (d full : ℕ) → Found → Run
-runBelow f words keys tag d full (found.Leaf n total) = Agrees (shared (take full (drop d (tagAt f words keys (n * 8 + 5)))) (drop d tag))
+runBelow f words keys tag d full (found.Leaf n total) = Agrees (shared (take full (drop d (tagAt f words keys (leaf-ref n)))) (drop d tag))
 runBelow f words keys tag d full found.Missing = Lost
 runBelow f words keys tag d full found.Damaged = Lost
 runBelow f words keys tag d full found.NoLeaf = Lost
@@ -62,7 +63,7 @@ runOf f words keys tag ref d p =
 
 -- the tag parts from the run
 abbrev pub forkPoint : Up → (ref d c : ℕ) → Found → Point
-forkPoint up ref d c (found.Leaf n total) = Fork up ref (n * 8 + 5) d c
+forkPoint up ref d c (found.Leaf n total) = Fork up ref (leaf-ref n) d c
 forkPoint up ref d c found.Missing = Broken
 forkPoint up ref d c found.Damaged = Broken
 forkPoint up ref d c found.NoLeaf = Broken
@@ -80,10 +81,12 @@ runStep f words keys tag kind rec ref d up (Agrees c) =
     (choose (leb full c) (childStep up ref byte (childAt (f .form) kind rec byte) (d + full + 1)) (Final (forkPoint up ref d c (lowestOf f words keys ref))))
 runStep f words keys tag kind rec ref d up Lost = Final Broken
 
+-- by what agrees of its run
 unfoldable pub innerStep : Frame → (words keys tag : List ℕ) (kind : ℕ) (rec : List ℕ) (ref d : ℕ) → Up → Step
 innerStep f words keys tag kind rec ref d up = runStep f words keys tag kind rec ref d up (runOf f words keys tag ref d (prefixAt (f .form) rec))
 
 -- ── the way ──
+-- at a leaf, at an inner record, or where the way is broken
 abbrev pub stepFrom : Frame → (words keys tag : List ℕ) (ref d : ℕ) → Up → Up → Arrival → Step
 stepFrom f words keys tag ref d upper up (arrival.Leaf n start) = Final (leafPoint tag (tagAt f words keys ref) ref d upper up)
 stepFrom f words keys tag ref d upper up (arrival.Inner kind start) =
@@ -94,10 +97,12 @@ stepFrom f words keys tag ref d upper up arrival.Broken = Final Broken
 unfoldable pub stepOf : Frame → (words keys tag : List ℕ) (left ref d : ℕ) → Up → Up → Step
 stepOf f words keys tag left ref d upper up = stepFrom f words keys tag ref d upper up (arrivalAt f words keys left (placeAt ref))
 
+-- the point of a step that goes no further
 abbrev pub endedOf : Step → Point
 endedOf (Next r d b) = Broken
 endedOf (Final p) = p
 
+-- step by step; upper and up are the last two records passed
 unfoldable pub pointFrom : Frame → (words keys tag : List ℕ) (left ref d : ℕ) → Up → Up → Point
 pointFrom f words keys tag zero ref d upper up = endedOf (stepOf f words keys tag 0 ref d upper up)
 pointFrom f words keys tag (suc left) ref d upper up =

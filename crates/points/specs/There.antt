@@ -36,6 +36,7 @@ pub record HoldsThere (f : Frame) (words keys : List ℕ) (upper up : Up) (leaf 
   pub above : UpThere f words up
   pub upper-above : UpThere f words upper
 
+-- the record that has no child for the byte, and the record above it
 pub record IntoThere (f : Frame) (words : List ℕ) (up : Up) (ref : ℕ) : Type 0 where
   pub here : InnerHere f words (placeAt ref)
   pub above : UpThere f words up
@@ -47,6 +48,7 @@ pub record ForkThere (f : Frame) (words keys tag : List ℕ) (up : Up) (ref leaf
   pub inside : d + c < length tag
   pub above : UpThere f words up
 
+-- by the point
 abbrev pub PointThere : Frame → (words keys tag : List ℕ) → Point → Type 0
 PointThere f words keys tag (Holds upper up leaf) = HoldsThere f words keys upper up leaf
 PointThere f words keys tag Clash = Unit {0}

@@ -137,8 +137,10 @@ fn run_of(
     if 8 < full {
         return run_below(words, keys, f, tag, reference, depth, full);
     }
+    let n = prefix::stored_len(p.full);
+    let k = n.0 as usize;
     let stored = p.stored;
-    Run::Agrees(compare::shared_words(&stored[0..full], &tag[depth..]))
+    Run::Agrees(compare::shared_words(&stored[0..k], &tag[depth..]))
 }
 
 // The point above a record from whose run the tag parts.

@@ -9,9 +9,7 @@ use lib.ListN.{getD}
 use lib.Dec.{eqb, ltb}
 use borrow.Author.Tests.{eq-eqb, ne-eqb, lt-ltb, le-ltb}
 use Rattle.lists.proofs.Scans.{pick}
-use Rattle.frames.specs.Frame.{Framed, frameWith}
 use Rattle.frames.specs.declared.frame.Frame.{Frame}
-use Rattle.frames.proofs.Frames.{by-eight}
 use Rattle.pools.specs.Pool.{lowestFrom, lowestFree, freeFrom, freeKind}
 use Rattle.pools.specs.declared.pools.Free.{Free}
 use Rattle.pools.specs.declared.pools.Free.the-variants.{At, Nowhere}
@@ -74,13 +72,3 @@ module _ {f : Frame} {words : List ℕ} {from kind : ℕ} (r : Smallest f words 
 
 pub smallest-end : {f : Frame} {words : List ℕ} {from kind : ℕ} → Smallest f words from kind → 4 < kind → Nowhere ≡ freeKind f words from
 smallest-end {f} {words} {from} {kind} r h = sym (r .left ∙ ap (freeFrom f words kind) (let w : 5 - kind ≡ 0 = omega arith in w))
-
--- ---- bounds
-abbrev Small : Frame → ℕ → Type 0
-Small f k = getD (f .caps) k 0 ≤ 4096
-
-pub caps-most : {f : Frame} → Framed f → (k : ℕ) → k < 8 → getD (f .caps) k 0 ≤ 4096
-caps-most {f} w k h =
-    let s = w .small-caps in
-    subst (λ (g : Frame). Small g k) (sym (w .made))
-    (by-eight (Small (frameWith (w .form) (w .sizes) (w .caps))) (omega arith) (s .s1) (s .s2) (s .s3) (s .s4) (s .s5) (omega arith) (omega arith) k h)

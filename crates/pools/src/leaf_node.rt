@@ -2,7 +2,8 @@
 ghost use mathlib.Core.Path.{_≡_};
 ghost use Prim.Native.Nat.{_≤_, _%_, _/_, _^_};
 ghost use lib.ListN.{length};
-ghost use Rattle.pools.specs.Leaf.{leafWords, keyBytes, setTotal};
+ghost use Rattle.lists.specs.Edit.{padded};
+ghost use Rattle.pools.specs.Leaf.{leafWords, setTotal};
 use lists::edit;
 
 // The low half of a total.
@@ -40,7 +41,7 @@ pub fn set_total(rec: &mut [u32], total: u64)
 // The tag, and 0 after it.
 pub fn write_key(key: &mut [u8], tag: &[u8])
     requires { ⌜ length (now tag) ≤ length (now key) ⌝ }
-    ensures { λ _. ⌜ now (key .exit) ≡ keyBytes (length (now (key .entry))) (now (tag .entry)) ⌝ }
+    ensures { λ _. ⌜ now (key .exit) ≡ padded (length (now (key .entry))) (now (tag .entry)) ⌝ }
 {
     let n = tag.len();
     let e = key.len();

@@ -19,6 +19,7 @@ eight l = take 8 (l ++ replicate 8 0)
 abbrev pub ofLength : ℕ → List ℕ → Prefix
 ofLength n l = record { full = record { 0 = n }; stored = eight l }
 
+-- what a record keeps of a run: its length and its first eight bytes
 unfoldable pub prefixOf : List ℕ → Prefix
 prefixOf run = ofLength (length run) run
 

@@ -10,7 +10,7 @@ use borrow.Author.Tests.{lt-ltb, le-ltb, eq-eqb, ne-eqb}
 use Rattle.lists.specs.Scan.{choose}
 use Rattle.lists.specs.Compare.{less}
 use Rattle.lists.specs.Part.{between}
-use Rattle.frames.specs.Frame.{trailerOf, frameFits, frameOf, FrameOf}
+use Rattle.frames.specs.Frame.{frameFits, frame, FrameOf}
 use Rattle.frames.specs.Place.{placeAt, inPool, startAt, keyAt}
 use Rattle.frames.specs.declared.frame.Frame.{Frame}
 use Rattle.records.specs.Own.{totalOf}
@@ -109,7 +109,7 @@ unfolding check.checkOf
 sound-fits words keys scratch {c} {s} e k = go (frameFits words keys) refl (sym k ∙ ap (λ (x : check.Answer). x .result) e)
   where
     go : (b : Bool) → frameFits words keys ≡ b
-        → checked.Sound ≡ choose b (check.checkWith (frameOf (trailerOf words)) words keys scratch) (check.answer checked.Damaged scratch) .result
+        → checked.Sound ≡ choose b (check.checkWith (frame words) words keys scratch) (check.answer checked.Damaged scratch) .result
         → frameFits words keys ≡ true
     go true q h = q
     go false q h = cc

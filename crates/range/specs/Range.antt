@@ -2,14 +2,16 @@
 use Prim.Native.Nat.{ℕ, zero, suc, _+_}
 use mathlib.Core.List.{List}
 use mathlib.Core.Bool.{Bool}
+use mathlib.Core.Option.{Option, none, some}
 use lib.ListN.{length, getD, take}
 use lib.Dec.{eqb, ltb}
 use Rattle.lists.specs.Scan.{choose}
 use Rattle.lists.specs.Compare.{less}
-use Rattle.frames.specs.Frame.{trailerOf, frameOf, firstWord}
+use Rattle.frames.specs.Frame.{frame, firstWord}
 use Rattle.frames.specs.Place.{placeAt, inPool, recordAt, keyAt}
 use Rattle.frames.specs.declared.frame.Frame.{Frame}
 use Rattle.records.specs.Own.{totalOf}
+use Rattle.records.specs.View.{Held}
 use Rattle.art.specs.Stores.{Place, leaf-place, inner-place}
 use Rattle.whole.specs.Check as check
 use Rattle.whole.specs.declared.check.Checked.{Checked}
@@ -55,7 +57,12 @@ afterFirst f words keys tag = afterFrom f words keys tag (getD (f .caps) 5 0 + 1
 
 -- in the frame that the trailer gives
 abbrev pub walkOf : List ℕ → List ℕ → List ℕ → After
-walkOf words keys tag = afterFirst (frameOf (trailerOf words)) words keys tag
+walkOf words keys tag = afterFirst (frame words) words keys tag
+
+-- the answer for what the first held tag at or after holds: its leaf and total, or 1 where there is none
+abbrev pub afterIs : Option Held → After
+afterIs none = Missing
+afterIs (some h) = Leaf (h .number) (h .total)
 
 -- ── the call ──
 pub record Answer : Type 0 where

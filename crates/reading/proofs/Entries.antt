@@ -31,7 +31,7 @@ use Rattle.art.proofs.Trees.{sorted}
 use Rattle.art.proofs.Facts.{height-bound}
 use Rattle.art.proofs.Walks.{store-shows}
 use Rattle.art.proofs.Leaves.{shows-numbered, numbers-are}
-use Rattle.view.specs.Seen.{LeafSeen, LeafObeys}
+use Rattle.view.specs.Seen.{LeafShows, LeafObeys}
 use Rattle.view.proofs.Views.{used-place, cell-used}
 use Rattle.view.proofs.Seen.{seen-leaf, leaf-obeys}
 use Rattle.reading.specs.Shown.{Shown}
@@ -103,7 +103,7 @@ held-sorted {d = some t} s = sorted t (s .good)
 
 -- the leaf of an entry holds its tag, its number and its total
 pub entry-seen : {f : Frame} {words keys : List ℕ} {d : Option (Tree Held)} → Shown f words keys d → (e : Tag × Held) → In e (held d)
-    → LeafSeen f words keys (e .1 .number) (e .0) (e .1)
+    → LeafShows f words keys (e .1 .number) (e .0) (e .1)
 entry-seen {d = none} s e i = elim i [ ]
 entry-seen {f} {words} {keys} {d = some t} s e i =
     seen-leaf f words keys (e .1 .number) (e .0) (e .1) (stored-entry (λ h. h .number) (cellOf f words keys) t [] (tree-numbered s) (tree-shows s) e i)

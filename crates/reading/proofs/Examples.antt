@@ -13,7 +13,7 @@ use lib.Dec.{leb, ltb}
 use Rattle.lists.proofs.Tests.{both}
 use Rattle.frames.specs.Kind.{kindRow}
 use Rattle.frames.specs.Form.{formKnown, formOf, storedOf}
-use Rattle.frames.specs.Frame.{formFits, trailerFits, trailerOf, frameFits, frameOf, FrameOf}
+use Rattle.frames.specs.Frame.{frameFits, frameOf, frame, formFits, trailerFits, FrameOf}
 use Rattle.frames.specs.Place.{inPool}
 use Rattle.frames.specs.declared.frame.Frame.{Frame}
 use Rattle.records.specs.Own.{prefixAt, headOk, sortedOk, bodyOk, innerOk, leafOk, totalOf}
@@ -50,7 +50,7 @@ tree : Tree Held
 tree = inner 1 0 [] (child 65 (leaf 0 [] leafA) (child 66 (leaf 1 [] leafB) end))
 
 f : Frame
-f = frameOf (trailerOf words)
+f = frame words
 
 framed : FrameOf f words keys
 unfolding words keys f frameFits trailerFits formFits formKnown formOf kindRow

@@ -11,11 +11,11 @@ use borrow.Author.Tests.{eq-eqb}
 use Rattle.frames.specs.Place.{inPool}
 use Rattle.frames.specs.declared.frame.Frame.{Frame}
 use Rattle.records.specs.View.{Held, cellOf}
-use Rattle.tree.specs.Leaf.{leafState, nextLeafOf, factsOf, tagOf}
+use Rattle.leaves.specs.Leaf.{leafState, nextLeafOf, factsOf, tagOf}
 use Rattle.tree.specs.declared.answer.Found.the-variants as found
 use Rattle.tree.specs.declared.answer.Facts.the-variants as facts
-use Rattle.tree.specs.declared.leaf.LeafState.the-variants.{NoLeaf}
-use Rattle.tree.proofs.Leaves.{state-outside, next-by, facts-by, len-by, tag-by}
+use Rattle.leaves.specs.declared.LeafState.the-variants.{NoLeaf}
+use Rattle.leaves.proofs.Leaves.{state-outside, next-by, facts-by, len-by, tag-by}
 use Rattle.art.specs.Tags.{Listing}
 use Rattle.art.specs.Trees.{Tree, leaf, inner, Row, end, child}
 use Rattle.art.specs.Deletes.{held}

@@ -7,3 +7,4 @@ pub mod Frees
 pub mod Answers
 pub mod Calls
 mod Examples
+mod Rows

@@ -13,11 +13,11 @@ use Rattle.frames.specs.Place.{placeAt, inPool, startAt, recordAt}
 use Rattle.frames.specs.declared.frame.Frame.{Frame}
 use Rattle.frames.proofs.Places.{place-leaf}
 use Rattle.records.specs.View.{Held}
-use Rattle.tree.specs.Leaf.{leafState, nextOf, nextLeafOf, factsOf, tagOf}
+use Rattle.leaves.specs.Leaf.{leafState, nextOf, nextLeafOf, factsOf, tagOf}
 use Rattle.tree.specs.declared.answer.Found.the-variants.{Leaf}
 use Rattle.tree.specs.declared.answer.Facts.the-variants as facts
-use Rattle.tree.specs.declared.leaf.LeafState.the-variants.{Good}
-use Rattle.tree.proofs.Leaves.{leaf-head, next-none, next-found, next-by, facts-by, len-by, tag-by}
+use Rattle.leaves.specs.declared.LeafState.the-variants.{Good}
+use Rattle.leaves.proofs.Leaves.{leaf-head, next-none, next-found, next-by, facts-by, len-by, tag-by}
 use Rattle.art.specs.Tags.{Tag, Listing}
 use Rattle.art.specs.Trees.{Tree}
 use Rattle.art.specs.Deletes.{held}

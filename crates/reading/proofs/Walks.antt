@@ -46,7 +46,7 @@ use Rattle.art.specs.Deletes as deletes
 use Rattle.art.specs.Stores.{Place, leaf-place, inner-place, Cell, leaf-cell, inner-cell, Store, Used, root, refs}
 use Rattle.art.specs.Walks.{walk-refs, walk-cell, walk-store, Shows, ShowsRow}
 use Rattle.art.proofs.Walks.{search-is-find}
-use Rattle.view.specs.Seen.{InnerSeen, InnerObeys}
+use Rattle.view.specs.Seen.{InnerShows, InnerObeys}
 use Rattle.view.proofs.Seen.{seen-leaf, seen-inner, leaf-obeys, inner-obeys}
 use Rattle.reading.specs.Shown.{Shown}
 use Rattle.reading.specs.Answers.{Bytes, answerOf, asked}
@@ -204,7 +204,7 @@ module _ {f : Frame} {words keys : List ℕ} (w : FrameOf f words keys) (rules :
       row : List (ℕ × ℕ)
       row = rowAt (f .form) k rec
 
-      s : InnerSeen f words k n (length run) (take 8 run) (refs r)
+      s : InnerShows f words k n (length run) (take 8 run) (refs r)
       s = seen-inner f words keys k n (length run) (take 8 run) (refs r) (h .0)
 
       o : InnerObeys f words k n (length run) (take 8 run) (refs r)

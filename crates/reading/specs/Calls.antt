@@ -7,7 +7,7 @@ use lib.ListN.{length}
 use Rattle.records.specs.View.{Held}
 use Rattle.tree.specs.Walk.{searchOf, prefixSearchOf}
 use Rattle.tree.specs.Edge.{minimumOf, maximumOf}
-use Rattle.tree.specs.Leaf.{nextLeafOf, factsOf, tagOf}
+use Rattle.leaves.specs.Leaf.{nextLeafOf, factsOf, tagOf}
 use Rattle.tree.specs.declared.answer.Found.the-variants.{NoLeaf}
 use Rattle.tree.specs.declared.answer.Facts.the-variants as facts
 use Rattle.art.specs.Tags.{Tag, Listing, exact, begin}

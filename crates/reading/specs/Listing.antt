@@ -3,7 +3,7 @@ use Prim.Native.Nat.{ℕ, zero, suc}
 use mathlib.Core.List.{List, [], _∷_}
 use Rattle.records.specs.View.{Held}
 use Rattle.tree.specs.Edge.{minimumOf}
-use Rattle.tree.specs.Leaf.{nextLeafOf, tagOf}
+use Rattle.leaves.specs.Leaf.{nextLeafOf, tagOf}
 use Rattle.tree.specs.declared.answer.Found.{Found}
 use Rattle.tree.specs.declared.answer.Found.the-variants.{Leaf, Missing, Damaged, NoLeaf}
 use Rattle.art.specs.Tags.{Listing}

@@ -17,9 +17,9 @@ use Rattle.art.specs.Chain.{Linked, leaves-of}
 use Rattle.view.specs.Links.{linksOf}
 
 -- a reference that names the first record of a tree, or 0 where there is no tree
-abbrev pub Rooted : ℕ → Option (Tree Held) → Type 0
-Rooted ref none = ref ≡ 0
-Rooted ref (some t) = placeAt ref ≡ root t
+abbrev pub RootAt : ℕ → Option (Tree Held) → Type 0
+RootAt ref none = ref ≡ 0
+RootAt ref (some t) = placeAt ref ≡ root t
 
 -- the block shows the directory d
 pub record Shown (f : Frame) (words keys : List ℕ) (d : Option (Tree Held)) : Type 0 where
@@ -33,6 +33,6 @@ pub record Shown (f : Frame) (words keys : List ℕ) (d : Option (Tree Held)) : 
   -- the record at each used place obeys its own rule
   pub rules : (x : Place) → Used (cellOf f words keys x) → ruleAt f words keys x ≡ true
   -- the trailer's root names the tree
-  pub rooted : Rooted (rootWord words) d
+  pub rooted : RootAt (rootWord words) d
   -- the leaf list has the leaves in order, both ways
   pub linked : Linked (linksOf f words) 0 (leaves-of d)

@@ -15,23 +15,14 @@ use Rattle.lists.proofs.Tests.{both, all-at}
 use Rattle.lists.proofs.Parts.{between-length, between-at}
 use Rattle.frames.specs.Kind.{childrenOf}
 use Rattle.records.specs.Own.{SlotsFit, sortedOk, BodyFits, InnerFits, sortedChild, indirectChild, childOf, childAt}
-use Rattle.records.specs.Row.{beside, filled, sortedRow, indirectRow, directRow, bodyRow, rowAt, refFor}
+use Rattle.records.specs.Row.{beside, filled, sortedRow, indirectRow, directRow, bodyRow, rowAt, refFor, Climbs, RowRule}
 use Rattle.frames.specs.declared.form.Form.{Form}
 use Rattle.lists.proofs.Alike.{alike-by, count-alike}
 use Rattle.records.proofs.Slots.{within, small-within, named-count}
 use Rattle.records.proofs.Owns.{body-fits, sorted-fits, indirect-fits, direct-fits}
 use Rattle.records.proofs.Rows.{Scanned, sorted-length, filled-skips, filled-holds, direct-scanned, indirect-scanned}
 
--- ---- the bytes ascend from lo on, below 256, and no reference is 0
-pub record Fine (lo : ℕ) (e : ℕ × ℕ) : Type 0 where
-  pub low : lo ≤ e .0
-  pub byte : e .0 < 256
-  pub some : 0 < e .1
-
-abbrev pub Climbs : ℕ → List (ℕ × ℕ) → Type 0
-Climbs lo [] = Unit {0}
-Climbs lo (e ∷ es) = Fine lo e × Climbs (suc (e .0)) es
-
+-- ---- the bytes ascend, below 256, and no reference is 0
 pub climbs-lower : (a b : ℕ) (es : List (ℕ × ℕ)) → a ≤ b → Climbs b es → Climbs a es
 climbs-lower a b [] h c = tt
 climbs-lower a b (e ∷ es) h c = (record { low = omega (arith, c .0 .low); byte = c .0 .byte; some = c .0 .some }, c .1)
@@ -114,11 +105,6 @@ filled-for a (suc i) (r ∷ rs) h =
     go false e ih = ap (refFor (a + suc i)) (filled-skips a r rs e) ∙ ih
 
 -- ---- each kind's row, by its body's rule
-pub record RowRule (row : List (ℕ × ℕ)) (child : ℕ → ℕ) (n : ℕ) : Type 0 where
-  pub size : length row ≡ n
-  pub climbs : Climbs 0 row
-  pub child-for : (b : ℕ) → b < 256 → child b ≡ refFor b row
-
 sorted-row : (k : ℕ) (body : List ℕ) (n : ℕ) → length body ≡ k + k → n ≤ k → sortedOk k body n ≡ true → RowRule (sortedRow k body n) (sortedChild k body n) n
 unfolding sortedOk
 sorted-row k body n long few ok =

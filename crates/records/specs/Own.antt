@@ -43,7 +43,7 @@ named slots j (r ∷ rs) = eqb (count (is (j + 1)) slots) (choose (nonzero r) 1 
 pub record Tallied (slots t : List ℕ) : Type 0 where
   pub each : (x : ℕ) → x < 49 → getD t x 0 ≡ count (is x) slots
 
--- kind 3 with n children
+-- kind 3 with n children: slot numbers up to 48, n of the 48 places filled, each filled place named by one slot number and an empty one by none
 unfoldable pub indirectOk : List ℕ → ℕ → Bool
 indirectOk body n =
     all (atMost 48) (between body 0 256)
@@ -55,10 +55,11 @@ pub record SlotsFit (body : List ℕ) : Type 0 where
   pub low : all (atMost 48) (between body 0 256) ≡ true
   pub names : named (between body 0 256) 0 (between body 256 304) ≡ true
 
--- kind 4 with n children
+-- kind 4 with n children: n of the references are not 0
 unfoldable pub directOk : List ℕ → ℕ → Bool
 directOk body n = eqb (count nonzero body) n
 
+-- a body's part of the rule, by the kind
 unfoldable pub bodyOk : ℕ → List ℕ → ℕ → Bool
 bodyOk kind body n = choose (leb kind 2) (sortedOk (childrenOf kind) body n) (choose (eqb kind 3) (indirectOk body n) (directOk body n))
 
@@ -66,7 +67,7 @@ bodyOk kind body n = choose (leb kind 2) (sortedOk (childrenOf kind) body n) (ch
 abbrev pub bodyPart : Form → ℕ → List ℕ → List ℕ
 bodyPart form kind rec = between rec (header form) (recordWords form kind)
 
--- an inner record's own rule
+-- an inner record's own rule: no more children than its kind holds, its head, and its body with so many children
 unfoldable pub innerOk : Form → ℕ → List ℕ → Bool
 innerOk form kind rec =
     leb (getD rec 1 0) (childrenOf kind) && (headOk form kind rec && bodyOk kind (bodyPart form kind rec) (getD rec 1 0))
@@ -86,7 +87,8 @@ pub record InnerFits (form : Form) (kind : ℕ) (rec : List ℕ) : Type 0 where
   pub long : length rec ≡ recordWords form kind
   pub ok : innerOk form kind rec ≡ true
 
--- the reference for a byte, 0 where there is none
+-- ── the reference for a byte, 0 where there is none ──
+-- kinds 1 and 2: at the place where the byte stands among the n key bytes
 unfoldable pub sortedChild : ℕ → List ℕ → ℕ → ℕ → ℕ
 sortedChild k body n byte =
     choose (ltb (first (is byte) (between body 0 n)) n)
@@ -97,14 +99,17 @@ sortedChild k body n byte =
 abbrev pub byslot : List ℕ → ℕ → ℕ
 byslot refs slot = choose (eqb slot 0) 0 (getD refs (slot - 1) 0)
 
+-- kind 3: by the byte's slot number
 unfoldable pub indirectChild : List ℕ → ℕ → ℕ
 indirectChild body byte = byslot (between body 256 304) (getD body byte 0)
 
+-- by the kind; kind 4 has it at the byte's own place
 unfoldable pub childOf : ℕ → List ℕ → ℕ → ℕ → ℕ
 childOf kind body n byte =
     choose (leb kind 2) (sortedChild (childrenOf kind) body n byte)
     (choose (eqb kind 3) (indirectChild body byte) (getD body byte 0))
 
+-- of a record
 unfoldable pub childAt : Form → ℕ → List ℕ → ℕ → ℕ
 childAt form kind rec byte = childOf kind (bodyPart form kind rec) (getD rec 1 0) byte
 
@@ -113,5 +118,6 @@ unfoldable pub leafOk : ℕ → List ℕ → List ℕ → Bool
 leafOk limit rec key =
     leb (getD rec 1 0) limit && (eqb (getD rec 0 0) 1 && all (atMost 0) (between key (getD rec 1 0) limit))
 
+-- a leaf's total: word 4 its low half, word 5 its high half
 unfoldable pub totalOf : List ℕ → ℕ
 totalOf rec = getD rec 4 0 + getD rec 5 0 * 4294967296

@@ -1,8 +1,9 @@
 -- The row of a record's children: their bytes ascending, each with its reference.
-use Prim.Native.Nat.{ℕ, zero, suc, _+_}
+use Prim.Native.Nat.{ℕ, zero, suc, _+_, _≤_, _<_}
+use mathlib.Core.Path.{_≡_}
 use mathlib.Core.List.{List, [], _∷_}
 use mathlib.Core.Bool.{true, false}
-use lib.ListN.{getD}
+use lib.ListN.{length, getD}
 use lib.Dec.{eqb, leb}
 use Rattle.lists.specs.Scan.{choose}
 use Rattle.lists.specs.Part.{between}
@@ -38,6 +39,7 @@ indirectRow body = filled 0 (spread (between body 256 304) (between body 0 256))
 abbrev pub directRow : List ℕ → List (ℕ × ℕ)
 directRow body = filled 0 body
 
+-- the row of a body with n children, by the kind
 unfoldable pub bodyRow : ℕ → List ℕ → ℕ → List (ℕ × ℕ)
 bodyRow kind body n = choose (leb kind 2) (sortedRow (childrenOf kind) body n) (choose (eqb kind 3) (indirectRow body) (directRow body))
 
@@ -45,19 +47,22 @@ bodyRow kind body n = choose (leb kind 2) (sortedRow (childrenOf kind) body n) (
 abbrev pub rowAt : Form → ℕ → List ℕ → List (ℕ × ℕ)
 rowAt form kind rec = bodyRow kind (bodyPart form kind rec) (getD rec 1 0)
 
--- ── one child of a row: the n-th, the first at or after a byte, the last ──
+-- ── one child of a row ──
 abbrev pub entry : ℕ × ℕ → Entry
 entry e = Child (e .0) (e .1)
 
+-- the n-th, from 0 on
 abbrev pub entryAt : ℕ → List (ℕ × ℕ) → Entry
 entryAt n [] = Nothing
 entryAt zero (e ∷ es) = entry e
 entryAt (suc n) (e ∷ es) = entryAt n es
 
+-- the first at or after byte b
 abbrev pub entryFrom : ℕ → List (ℕ × ℕ) → Entry
 entryFrom b [] = Nothing
 entryFrom b (e ∷ es) = elim (leb b (e .0)) [ true ↦ entry e | false ↦ entryFrom b es ]
 
+-- the last
 abbrev pub lastEntry : List (ℕ × ℕ) → Entry
 lastEntry [] = Nothing
 lastEntry (e ∷ []) = entry e
@@ -67,3 +72,21 @@ lastEntry (e ∷ f ∷ es) = lastEntry (f ∷ es)
 abbrev pub refFor : ℕ → List (ℕ × ℕ) → ℕ
 refFor b [] = 0
 refFor b (e ∷ es) = elim (eqb (e .0) b) [ true ↦ e .1 | false ↦ refFor b es ]
+
+-- ── what a row is, of a record that obeys its rule ──
+-- a child: its byte is lo or more and below 256, its reference not 0
+pub record Fine (lo : ℕ) (e : ℕ × ℕ) : Type 0 where
+  pub low : lo ≤ e .0
+  pub byte : e .0 < 256
+  pub some : 0 < e .1
+
+-- the bytes ascend, the first of them lo or more
+abbrev pub Climbs : ℕ → List (ℕ × ℕ) → Type 0
+Climbs lo [] = Unit {0}
+Climbs lo (e ∷ es) = Fine lo e × Climbs (suc (e .0)) es
+
+-- n children with ascending bytes, and the child for a byte is the row's
+pub record RowRule (row : List (ℕ × ℕ)) (child : ℕ → ℕ) (n : ℕ) : Type 0 where
+  pub size : length row ≡ n
+  pub climbs : Climbs 0 row
+  pub child-for : (b : ℕ) → b < 256 → child b ≡ refFor b row

@@ -23,17 +23,40 @@ abbrev pub places : List (ℕ × ℕ) → List (ℕ × Place)
 places [] = []
 places (e ∷ es) = (e .0, placeAt (e .1)) ∷ places es
 
--- a record whose word 0 is 0 is unused
+-- a leaf: its tag, and what is held; a record whose word 0 is 0 is unused
 abbrev pub leafCell : ℕ → List ℕ → List ℕ → Cell Held
 leafCell n rec key = choose (eqb (getD rec 0 0) 0) unused (leaf-cell (take (getD rec 1 0) key) (record { number = n; total = totalOf rec }))
 
+-- an inner record: its length, its stored bytes and its row
 abbrev pub innerCell : Form → ℕ → List ℕ → Cell Held
 innerCell form kind rec =
     choose (eqb (getD rec 0 0) 0) unused (inner-cell (getD rec 2 0) (held (prefixAt form rec)) (places (rowAt form kind rec)))
 
+-- ── of a record's words and its key bytes, at a place ──
+-- the key bytes of a place: only leaves have them
+abbrev pub keyFor : Frame → List ℕ → Place → List ℕ
+keyFor f keys (leaf-place n) = keyAt f keys n
+keyFor f keys (inner-place k n) = []
+
+-- the cell that they make
+abbrev pub cellIn : Frame → Place → List ℕ → List ℕ → Cell Held
+cellIn f (leaf-place n) rec key = leafCell n rec key
+cellIn f (inner-place k n) rec key = innerCell (f .form) k rec
+
+-- they obey the record's own rule
+abbrev pub ruleIn : Frame → Place → List ℕ → List ℕ → Bool
+ruleIn f (leaf-place n) rec key = leafOk (f .form .limit) rec key
+ruleIn f (inner-place k n) rec key = innerOk (f .form) k rec
+
+-- they are all 0
+abbrev pub blankIn : Place → List ℕ → List ℕ → Bool
+blankIn (leaf-place n) rec key = all (atMost 0) rec && all (atMost 0) key
+blankIn (inner-place k n) rec key = all (atMost 0) rec
+
+-- ── of the block's words and key bytes ──
+-- the cell at a place, be it in a pool or not
 abbrev pub rawCell : Frame → List ℕ → List ℕ → Place → Cell Held
-rawCell f words keys (leaf-place n) = leafCell n (recordAt f words (leaf-place n)) (keyAt f keys n)
-rawCell f words keys (inner-place k n) = innerCell (f .form) k (recordAt f words (inner-place k n))
+rawCell f words keys x = cellIn f x (recordAt f words x) (keyFor f keys x)
 
 -- what stands at a place; a place of no pool is unused
 unfoldable pub cellOf : Frame → List ℕ → List ℕ → Place → Cell Held
@@ -41,10 +64,8 @@ cellOf f words keys x = choose (inPool f x) (rawCell f words keys x) unused
 
 -- the record there obeys its own rule
 abbrev pub ruleAt : Frame → List ℕ → List ℕ → Place → Bool
-ruleAt f words keys (leaf-place n) = leafOk (f .form .limit) (recordAt f words (leaf-place n)) (keyAt f keys n)
-ruleAt f words keys (inner-place k n) = innerOk (f .form) k (recordAt f words (inner-place k n))
+ruleAt f words keys x = ruleIn f x (recordAt f words x) (keyFor f keys x)
 
 -- all words there, and a leaf's key bytes, are 0
 abbrev pub blankAt : Frame → List ℕ → List ℕ → Place → Bool
-blankAt f words keys (leaf-place n) = all (atMost 0) (recordAt f words (leaf-place n)) && all (atMost 0) (keyAt f keys n)
-blankAt f words keys (inner-place k n) = all (atMost 0) (recordAt f words (inner-place k n))
+blankAt f words keys x = blankIn x (recordAt f words x) (keyFor f keys x)

@@ -1,8 +1,8 @@
 // The head of an inner record: kind, child count, full length, stored prefix.
 ghost use mathlib.Core.Path.{_≡_};
-ghost use Prim.Native.Nat.{_≤_};
+ghost use Prim.Native.Nat.{_≤_, _<_, _+_, _^_};
 ghost use lib.ListN.{length, getD};
-ghost use Rattle.frames.specs.Form.{storedOf};
+ghost use Rattle.frames.specs.Form.{eightFrom, storedOf};
 ghost use Rattle.records.specs.Own.{headOk, prefixAt};
 use frames::form::Form;
 use lists::scan;
@@ -16,21 +16,49 @@ fn word(s: &[u32], i: usize) -> u32
     if i < s.len() { s[i] } else { 0 }
 }
 
+// Eight words from `a` on, 0 for those past the end.
+fn eight_or_none(s: &[u32], a: usize) -> [u32; 8]
+    requires { ⌜ a < 2 ^ 34 ⌝ }
+    ensures { λ r. ⌜ r ≡ eightFrom (now (s .entry)) a ⌝ }
+{
+    [
+        word(s, a),
+        word(s, a + 1),
+        word(s, a + 2),
+        word(s, a + 3),
+        word(s, a + 4),
+        word(s, a + 5),
+        word(s, a + 6),
+        word(s, a + 7),
+    ]
+}
+
+// The same where all eight are there, in one go.
+fn eight(s: &[u32], a: usize) -> [u32; 8]
+    requires { ⌜ a + 8 ≤ length (now s) ⌝ }
+    ensures { λ r. ⌜ r ≡ eightFrom (now (s .entry)) a ⌝ }
+{
+    [
+        s[a],
+        s[a + 1],
+        s[a + 2],
+        s[a + 3],
+        s[a + 4],
+        s[a + 5],
+        s[a + 6],
+        s[a + 7],
+    ]
+}
+
 // The eight stored prefix bytes, one a word, after the count below.
 pub fn stored_of(form: Form, rec: &[u32]) -> [u32; 8]
     ensures { λ r. ⌜ r ≡ storedOf form (now (rec .entry)) ⌝ }
 {
     let a = 3 + form.counts as usize;
-    [
-        word(rec, a),
-        word(rec, a + 1),
-        word(rec, a + 2),
-        word(rec, a + 3),
-        word(rec, a + 4),
-        word(rec, a + 5),
-        word(rec, a + 6),
-        word(rec, a + 7),
-    ]
+    if a + 8 <= rec.len() {
+        return eight(rec, a);
+    }
+    eight_or_none(rec, a)
 }
 
 // The record's prefix.

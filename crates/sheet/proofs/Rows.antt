@@ -15,8 +15,8 @@ use Rattle.edits.specs.Head.{setPrefix, setHead}
 use Rattle.edits.specs.Body.{sortedAdd, sortedRemove, bodyAdd, bodyRemove, sortedBody, bodyOf}
 use Rattle.edits.specs.Record.{addOf, removeOf, buildRec}
 use Rattle.pools.specs.Pool.{lowestFree, freeKind}
-use Rattle.pools.specs.Link.{setTrailer, setNext, setPrevious}
-use Rattle.pools.specs.Leaf.{leafWords, keyBytes}
+use Rattle.pools.specs.Link.{setTrailer, setLink, setNext, setPrevious}
+use Rattle.pools.specs.Leaf.{leafWords}
 use Rattle.pools.specs.Start.{startFits, trailerWords, startOf}
 use Rattle.tree.specs.Arrive.{arrivalAt, withFrame}
 use Rattle.tree.specs.Edge.{edgeRef, edgeStep, edgeOf}
@@ -41,5 +41,5 @@ use Rattle.sheet.specs.Sheet.{step, givenFrom, wantedOf, given, wanted, 
 
 -- rows a to l, with every block on the way sound
 pub sheet : given rows ≡ wanted rows
-unfolding prefixOf splitOf mergeOf matchOf splice shiftIn shiftOut kindRow formKnown formOf storedOf formFits trailerFits frameFits frameOf prefixAt headOk sortedOk bodyOk innerOk sortedChild childOf childAt leafOk totalOf bodyRow cellOf setPrefix setHead sortedAdd sortedRemove bodyAdd bodyRemove sortedBody bodyOf addOf removeOf buildRec lowestFree freeKind setTrailer setNext setPrevious leafWords keyBytes startFits trailerWords startOf arrivalAt withFrame edgeRef edgeStep edgeOf walk.leafAnswer walk.innerStep walk.stepOf walk.walkOf placesIn fresh reached tagAt goesOn storedAgrees leafVisit turnAt rowEnd rowBy recordBy sweptAt sweptPool swept rootWay wayWell wholeBy checkOf range.below range.leafStep range.stepOf range.afterFrom range.afterOf points.leafPoint points.runOf points.innerStep points.stepOf points.pointFrom points.pointOf addAt removeAt prefixedAt branchAt clearAt leafIn keyIn leafOut keyOut insert-plan.intoChoice insert-plan.forkChoice insert-plan.leafPlan insert-plan.pointPlan insert-plan.planOf forked hung newWords insertSound insertChecked insertOf delete-plan.otherEntry delete-plan.cutUnder delete-plan.pointPlan delete-plan.planOf merged pruned goneWords deleteSound deleteChecked deleteOf order tag-dec begins-dec ℕ-discrete step givenFrom wantedOf given wanted rows
+unfolding prefixOf splitOf mergeOf matchOf splice shiftIn shiftOut kindRow formKnown formOf storedOf formFits trailerFits frameFits frameOf prefixAt headOk sortedOk bodyOk innerOk sortedChild childOf childAt leafOk totalOf bodyRow cellOf setPrefix setHead sortedAdd sortedRemove bodyAdd bodyRemove sortedBody bodyOf addOf removeOf buildRec lowestFree freeKind setTrailer setLink setNext setPrevious leafWords startFits trailerWords startOf arrivalAt withFrame edgeRef edgeStep edgeOf walk.leafAnswer walk.innerStep walk.stepOf walk.walkOf placesIn fresh reached tagAt goesOn storedAgrees leafVisit turnAt rowEnd rowBy recordBy sweptAt sweptPool swept rootWay wayWell wholeBy checkOf range.below range.leafStep range.stepOf range.afterFrom range.afterOf points.leafPoint points.runOf points.innerStep points.stepOf points.pointFrom points.pointOf addAt removeAt prefixedAt branchAt clearAt leafIn keyIn leafOut keyOut insert-plan.intoChoice insert-plan.forkChoice insert-plan.leafPlan insert-plan.pointPlan insert-plan.planOf forked hung newWords insertSound insertChecked insertOf delete-plan.otherEntry delete-plan.cutUnder delete-plan.pointPlan delete-plan.planOf merged pruned goneWords deleteSound deleteChecked deleteOf order tag-dec begins-dec ℕ-discrete step givenFrom wantedOf given wanted rows
 sheet = refl

@@ -6,7 +6,7 @@ use mathlib.Core.List.{List, [], _∷_, _++_}
 use mathlib.Core.Option.{Option, none, some}
 use lib.ListN.{replicate}
 use Rattle.frames.specs.Form.{formOf, sizesOf}
-use Rattle.frames.specs.Frame.{trailerOf, backsOf, frameOf, rootWord}
+use Rattle.frames.specs.Frame.{frame, backsOf, rootWord}
 use Rattle.frames.specs.Place.{placeAt}
 use Rattle.frames.specs.declared.frame.Caps.{Caps}
 use Rattle.frames.specs.declared.frame.Frame.{Frame}
@@ -98,7 +98,7 @@ startingOf b o = changing (starts.startNumber (o .answer)) 0 (block (o .words) (
 abbrev pub insertingOf : insert.Out → Step
 insertingOf o = changing (inserted.numberOf (o .answer)) (inserted.totalIn (o .answer)) (block (o .words) (o .keys) (o .scratch))
 
-abbrev pub deletingOf : delete.Left → Step
+abbrev pub deletingOf : delete.Out → Step
 deletingOf o = changing (deleted.numberOf (o .answer)) (deleted.totalIn (o .answer)) (block (o .words) (o .keys) (o .scratch))
 
 -- start is lent slices of the lengths that it wants; every other call has what the call before it left
@@ -110,7 +110,7 @@ step b (searching t) = record { left = b; given = foundGiven (searchOf (b .words
 step b (prefix-searching t) = record { left = b; given = foundGiven (prefixSearchOf (b .words) (b .keys) (bytes t)) }
 step b minimum = record { left = b; given = foundGiven (minimumOf (b .words) (b .keys)) }
 step b (at-or-after t) = record { left = b; given = afterGiven (range.afterOf (b .words) (b .keys) (b .scratch) (bytes t) .result) }
-step b drawing = record { left = b; given = drawn (drawnIn (frameOf (trailerOf (b .words))) b) }
+step b drawing = record { left = b; given = drawn (drawnIn (frame (b .words)) b) }
 
 -- ── the table ──
 -- a call with what it must give

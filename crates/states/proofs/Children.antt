@@ -10,9 +10,8 @@ use native.Mathlib.Omega.{arith}
 use borrow.Author.Tests.{eq-eqb}
 use Rattle.lists.proofs.Scans.{pick}
 use Rattle.frames.specs.Place.{placeAt}
-use Rattle.records.specs.Row.{refFor}
+use Rattle.records.specs.Row.{refFor, Climbs}
 use Rattle.records.specs.View.{places}
-use Rattle.records.proofs.RowRules.{Climbs}
 use Rattle.art.specs.Stores.{Place}
 use Rattle.art.specs.Refs.{find-ref}
 use Rattle.edits.specs.Rows.{Row}

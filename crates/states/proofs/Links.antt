@@ -13,10 +13,10 @@ use Rattle.frames.specs.declared.frame.Frame.{Frame}
 use Rattle.records.specs.Own.{leafOk}
 use Rattle.records.specs.View.{Held, leafCell, cellOf}
 use Rattle.art.specs.Stores.{Place, leaf-place, Cell, unused, Store, Used, write}
-use Rattle.art.specs.Chain.{Links}
+use Rattle.art.specs.Chain.{Links, own-links, set-after, set-before}
 use Rattle.pools.specs.Link.{setTrailer, setNext, setPrevious}
 use Rattle.view.specs.Cells.{Same}
-use Rattle.view.specs.Links.{UsedOrEnd, linksOf, own-links, set-after, set-before}
+use Rattle.view.specs.Links.{UsedOrEnd, linksOf}
 use Rattle.view.proofs.Puts.{put-same, put-trailer}
 use Rattle.view.proofs.Keys.{key-same, leaf-fits, leaf-keeps, leaf-view}
 use Rattle.view.proofs.Trailers.{trailer-keeps, trailer-view, trailer-fits}

@@ -17,7 +17,8 @@ use Rattle.art.specs.Stores.{Place, inner-place, place-dec, Cell, unused, inner
 use Rattle.art.specs.Refs.{Refs}
 use Rattle.art.specs.Chain.{Links}
 use Rattle.edits.specs.Rows.{Row}
-use Rattle.edits.proofs.Inners.{Inner, inner-shows}
+use Rattle.edits.specs.Inner.{Inner}
+use Rattle.edits.proofs.Inners.{inner-shows}
 use Rattle.view.specs.Cells.{Same}
 use Rattle.view.specs.Links.{linksOf}
 use Rattle.view.proofs.Views.{used-place}

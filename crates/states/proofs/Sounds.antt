@@ -4,7 +4,7 @@ use mathlib.Core.Path.{_≡_, refl, sym, subst, _∙_, fun-ext}
 use mathlib.Core.List.{List}
 use mathlib.Core.Option.{Option}
 use lib.ListN.{length}
-use Rattle.frames.specs.Frame.{rootWord}
+use Rattle.frames.specs.Frame.{rootWord, frame}
 use Rattle.frames.specs.declared.frame.Frame.{Frame}
 use Rattle.records.specs.View.{Held}
 use Rattle.art.specs.Trees.{Tree}
@@ -14,7 +14,7 @@ use Rattle.art.specs.Chain.{Links, Linked, leaves-of}
 use Rattle.art.specs.Points.{store-of}
 use Rattle.art.specs.Calls.{OnceOf}
 use Rattle.view.specs.Links.{linksOf}
-use Rattle.whole.specs.Sound.{frame, Rooted, Sound}
+use Rattle.whole.specs.Sound.{Rooted, Sound}
 use Rattle.states.specs.State.{State}
 use Rattle.states.proofs.Standing.{shown-at}
 

@@ -18,9 +18,10 @@ use Rattle.art.specs.Tags.{Tag}
 use Rattle.art.specs.Stores.{Place, leaf-place, inner-place, leaf-cell, inner-cell, Store, Used}
 use Rattle.art.specs.Refs.{Refs}
 use Rattle.art.specs.Chain.{Links}
-use Rattle.edits.proofs.Inners.{Inner, inner-own, inner-size}
+use Rattle.edits.specs.Inner.{Inner}
+use Rattle.edits.proofs.Inners.{inner-own, inner-size}
 use Rattle.view.specs.Links.{UsedOrEnd}
-use Rattle.view.specs.Seen.{LeafSeen, LeafObeys}
+use Rattle.view.specs.Seen.{LeafShows, LeafObeys}
 use Rattle.view.proofs.Seen.{seen-leaf, seen-inner, leaf-obeys, inner-obeys}
 use Rattle.states.specs.State.{State}
 
@@ -53,7 +54,7 @@ module _ {f : Frame} {words keys : List ℕ} {σ : Store Held} {links : Links} {
 
   -- a leaf
   module _ (n : ℕ) (t : Tag) (a : Held) (e : σ (leaf-place n) ≡ leaf-cell t a) where
-    pub leaf-seen : LeafSeen f words keys n t a
+    pub leaf-seen : LeafShows f words keys n t a
     leaf-seen = seen-leaf f words keys n t a (shown-at (leaf-place n) ∙ e)
 
     pub leaf-stands : LeafObeys f words keys n t

@@ -27,9 +27,11 @@ use Rattle.edits.specs.Head.{setPrefix}
 use Rattle.edits.specs.Record.{addOf, removeOf, replaceOf, spreadOf, buildRec}
 use Rattle.edits.specs.Rows.{Row, rowInsert, rowPair, rowRemove, rowReplace}
 use Rattle.edits.proofs.Bodies.{spread-at-byte}
-use Rattle.edits.proofs.Inners.{PrefixFits, Inner, inner-holds, inner-size, inner-climbs, inner-child, inner-fits, spread-of, add-inner, remove-inner, replace-inner, prefix-inner, build-inner, move-inner}
+use Rattle.edits.specs.Inner.{PrefixFits, Inner}
+use Rattle.edits.proofs.Inners.{inner-holds, inner-size, inner-climbs, inner-child, inner-fits, spread-of, add-inner, remove-inner, replace-inner, prefix-inner, build-inner, move-inner}
 use Rattle.edits.proofs.RowChanges.{insert-places, pair-places, pair-climbs, remove-length, remove-climbs, remove-places, replace-places, table-remove}
-use Rattle.pools.specs.Leaf.{leafWords, keyBytes, setTotal}
+use Rattle.lists.specs.Edit.{padded}
+use Rattle.pools.specs.Leaf.{leafWords, setTotal}
 use Rattle.pools.specs.Link.{setTrailer}
 use Rattle.view.specs.Cells.{wordZero}
 use Rattle.view.specs.Links.{UsedOrEnd}
@@ -225,7 +227,7 @@ module _ {f : Frame} {words keys : List ℕ} {σ : Store Held} {links : Links} {
       let limit = f .form .limit in
       let s₁ = next-state s previous (leaf-ref n) a in
       let s₂ = previous-state s₁ next (leaf-ref n) (kept-end s s₁ (λ m. refl) next b) in
-      leaf-state s₂ n (leafWords (length tag) previous next total) (keyBytes limit tag) pool (words-long (length tag) previous next total) (bytes-long limit tag short)
+      leaf-state s₂ n (leafWords (length tag) previous next total) (padded limit tag) pool (words-long (length tag) previous next total) (bytes-long limit tag short)
       (leaf-cell tag (record { number = n; total = total })) (words-cell limit tag short previous next total n) (λ u. words-rule limit tag short previous next total) (λ e. absurd (subst Used e tt))
 
   pub state-leaf-out : (n : ℕ) → inPool f (leaf-place n) ≡ true → UsedOrEnd f words keys (links .prev n) → UsedOrEnd f words keys (links .next n)

@@ -1,7 +1,8 @@
 -- The cases of `edgeRef`, `edgeStep` and `edgeOf`.
-use Prim.Native.Nat.{ℕ, zero, suc, _-_, _≤_, _<_}
+use Prim.Native.Nat.{ℕ, zero, suc, _+_, _-_, _≤_, _<_}
 use mathlib.Core.Path.{_≡_, refl, sym, ap, _∙_}
 use mathlib.Core.List.{List}
+use native.Mathlib.Numerals.{add-one}
 use native.Mathlib.Omega.{arith}
 use Rattle.frames.specs.Place.{placeAt}
 use Rattle.records.specs.Row.{rowAt}
@@ -11,6 +12,7 @@ use Rattle.records.specs.declared.representation.Entry.{Entry}
 use Rattle.tree.specs.Arrive.{arrivalAt}
 use Rattle.tree.specs.Edge.{entryRef, edgeEntry, edgeRef, edgeFrom, edgeStep, edgeEnded, edgeOf}
 use Rattle.tree.specs.declared.answer.Found.{Found}
+use Rattle.tree.specs.declared.answer.Found.the-variants.{Damaged}
 use Rattle.tree.specs.declared.arrive.Arrival.{Arrival}
 use Rattle.tree.specs.declared.minmax.Edge.{Edge}
 use Rattle.tree.specs.declared.minmax.EdgeStep.{EdgeStep}
@@ -42,11 +44,27 @@ module _ (f : Frame) (words keys : List ℕ) (edge : Edge) where
   edge-end zero ref a e = ap edgeEnded e
   edge-end (suc left) ref a e = ap (go-on left) e
 
-  pub edge-over : (left ref : ℕ) → left ≤ 0 → edgeOf f words keys edge left ref ≡ edgeEnded (edgeStep f words keys edge 0 ref)
-  unfolding edgeOf
-  edge-over zero ref h = refl
-  edge-over (suc left) ref h = absurd (omega arith)
+  -- ---- with so many steps left, the next one included; where none is left the block is damaged
+  abbrev pub edgesOf : ℕ → ℕ → Found
+  edgesOf zero ref = Damaged
+  edgesOf (suc left) ref = edgeOf f words keys edge left ref
 
--- the walk at some point: what it answers from there is what it answers from the root
-pub record Descending (f : Frame) (words keys : List ℕ) (edge : Edge) (root left ref : ℕ) : Type 0 where
-  pub same-answer : edgeOf f words keys edge (f .form .limit) root ≡ edgeOf f words keys edge left ref
+  pub edges-first : (left ref : ℕ) → edgeOf f words keys edge left ref ≡ edgesOf (left + 1) ref
+  edges-first left ref = ap (λ (n : ℕ). edgesOf n ref) (sym (add-one left))
+
+  pub edges-on : (n ref : ℕ) → 0 < n → edgesOf n ref ≡ edgeOf f words keys edge (n - 1) ref
+  edges-on zero ref h = absurd (omega arith)
+  edges-on (suc left) ref h = ap (λ (n : ℕ). edgeOf f words keys edge n ref) (let q : left ≡ suc left - 1 = omega arith in q)
+
+  pub edges-next : (left ref r : ℕ) → edgeStep f words keys edge left ref ≡ Next r → edgeOf f words keys edge left ref ≡ edgesOf left r
+  unfolding edgeOf go-on
+  edges-next zero ref r e = ap edgeEnded e
+  edges-next (suc left) ref r e = ap (go-on left) e
+
+  pub edges-over : (n ref : ℕ) → n ≤ 0 → Damaged ≡ edgesOf n ref
+  edges-over zero ref h = refl
+  edges-over (suc left) ref h = absurd (omega arith)
+
+-- the walk at some point, with n steps left: what it answers from there is what it answers from the root
+pub record Descending (f : Frame) (words keys : List ℕ) (edge : Edge) (root n ref : ℕ) : Type 0 where
+  pub same-answer : edgeOf f words keys edge (f .form .limit) root ≡ edgesOf f words keys edge n ref

@@ -1,5 +1,3 @@
 pub mod Arrivals
 pub mod Walks
 pub mod Edges
-pub mod Leaves
-mod Examples

@@ -3,6 +3,7 @@ use Prim.Native.Nat.{ℕ, zero, suc, _+_, _-_, _≤_, _<_}
 use mathlib.Core.Path.{_≡_, refl, sym, ap, _∙_}
 use mathlib.Core.List.{List}
 use mathlib.Core.Bool.{Bool, true, false}
+use native.Mathlib.Numerals.{add-one}
 use native.Mathlib.Omega.{arith}
 use borrow.Author.Tests.{eq-eqb, ne-eqb}
 use lib.ListN.{length, getD}
@@ -25,7 +26,7 @@ use Rattle.tree.specs.Answer.{leafFound}
 use Rattle.tree.specs.Arrive.{arrivalAt}
 use Rattle.tree.specs.Walk.{compareFrom, fits, leafAnswer, childStep, afterMatch, innerStep, stepFrom, stepOf, endedOf, walkOf}
 use Rattle.tree.specs.declared.answer.Found.{Found}
-use Rattle.tree.specs.declared.answer.Found.the-variants.{Missing}
+use Rattle.tree.specs.declared.answer.Found.the-variants.{Missing, Damaged}
 use Rattle.tree.specs.declared.arrive.Arrival.{Arrival}
 use Rattle.tree.specs.declared.arrive.Arrival.the-variants.{Leaf, Inner, Broken}
 use Rattle.tree.specs.declared.lookup.Aim.{Aim}
@@ -124,13 +125,29 @@ module _ (f : Frame) (words keys tag : List ℕ) (aim : Aim) where
   walk-end zero ref depth behavior a e = ap endedOf e
   walk-end (suc left) ref depth behavior a e = ap (go-on left) e
 
-  pub walk-over : (left ref depth : ℕ) (behavior : PrefixMatchBehavior) → left ≤ 0
-      → walkOf f words keys tag aim left ref depth behavior ≡ endedOf (stepOf f words keys tag aim 0 ref depth behavior)
-  unfolding walkOf
-  walk-over zero ref depth behavior h = refl
-  walk-over (suc left) ref depth behavior h = absurd (omega arith)
+  -- ---- with so many steps left, the next one included; where none is left the block is damaged
+  abbrev pub stepsOf : ℕ → ℕ → ℕ → PrefixMatchBehavior → Found
+  stepsOf zero ref depth behavior = Damaged
+  stepsOf (suc left) ref depth behavior = walkOf f words keys tag aim left ref depth behavior
 
--- the walk at some point: what it answers from there is what it answers from the root
-pub record Walking (f : Frame) (words keys tag : List ℕ) (aim : Aim) (root left ref depth : ℕ) (behavior : PrefixMatchBehavior) : Type 0 where
+  pub steps-first : (left ref depth : ℕ) (behavior : PrefixMatchBehavior) → walkOf f words keys tag aim left ref depth behavior ≡ stepsOf (left + 1) ref depth behavior
+  steps-first left ref depth behavior = ap (λ (n : ℕ). stepsOf n ref depth behavior) (sym (add-one left))
+
+  pub steps-on : (n ref depth : ℕ) (behavior : PrefixMatchBehavior) → 0 < n → stepsOf n ref depth behavior ≡ walkOf f words keys tag aim (n - 1) ref depth behavior
+  steps-on zero ref depth behavior h = absurd (omega arith)
+  steps-on (suc left) ref depth behavior h = ap (λ (n : ℕ). walkOf f words keys tag aim n ref depth behavior) (let q : left ≡ suc left - 1 = omega arith in q)
+
+  pub steps-next : (left ref depth : ℕ) (behavior : PrefixMatchBehavior) (r d : ℕ) (s : PrefixMatchBehavior)
+      → stepOf f words keys tag aim left ref depth behavior ≡ Next r d s → walkOf f words keys tag aim left ref depth behavior ≡ stepsOf left r d s
+  unfolding walkOf go-on
+  steps-next zero ref depth behavior r d s e = ap endedOf e
+  steps-next (suc left) ref depth behavior r d s e = ap (go-on left) e
+
+  pub steps-over : (n ref depth : ℕ) (behavior : PrefixMatchBehavior) → n ≤ 0 → Damaged ≡ stepsOf n ref depth behavior
+  steps-over zero ref depth behavior h = refl
+  steps-over (suc left) ref depth behavior h = absurd (omega arith)
+
+-- the walk at some point, with n steps left: what it answers from there is what it answers from the root
+pub record Walking (f : Frame) (words keys tag : List ℕ) (aim : Aim) (root n ref depth : ℕ) (behavior : PrefixMatchBehavior) : Type 0 where
   pub within : depth ≤ length tag
-  pub same-answer : walkOf f words keys tag aim (f .form .limit) root 0 Pessimistic ≡ walkOf f words keys tag aim left ref depth behavior
+  pub same-answer : walkOf f words keys tag aim (f .form .limit) root 0 Pessimistic ≡ stepsOf f words keys tag aim n ref depth behavior

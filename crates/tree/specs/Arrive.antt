@@ -8,7 +8,7 @@ use lib.Dec.{eqb, ltb}
 use Rattle.lists.specs.Scan.{choose}
 use Rattle.lists.specs.Part.{between}
 use Rattle.frames.specs.Form.{recordWords}
-use Rattle.frames.specs.Frame.{trailerOf, rootWord, frameFits, frameOf}
+use Rattle.frames.specs.Frame.{frameFits, frame, rootWord}
 use Rattle.records.specs.Own.{leafOk, InnerFits}
 use Rattle.frames.specs.Place.{inPool, startAt}
 use Rattle.records.specs.View.{ruleAt}
@@ -53,7 +53,7 @@ pub record InnerThere (form : Form) (words : List ℕ) (kind start : ℕ) : Type
 -- ── where a call begins ──
 -- what a call gives on a frame that fits, and what it gives where none does
 unfoldable pub withFrame : {A : Type 0} → List ℕ → List ℕ → (Frame → A) → A → A
-withFrame words keys given refused = choose (frameFits words keys) (given (frameOf (trailerOf words))) refused
+withFrame words keys given refused = choose (frameFits words keys) (given (frame words)) refused
 
 -- frame 6, 1 for no root, then as the walk meets it
 abbrev pub fromRoot : List ℕ → List ℕ → (Frame → Found) → Found

@@ -40,9 +40,11 @@ edgeFrom f words edge (Leaf n start) = Final (leafFound n (between words start (
 edgeFrom f words edge (Inner kind start) = Next (edgeRef edge (f .form) kind (between words start (start + recordWords (f .form) kind)))
 edgeFrom f words edge Broken = Final Damaged
 
+-- the record that a reference names
 unfoldable pub edgeStep : Frame → List ℕ → List ℕ → Edge → ℕ → ℕ → EdgeStep
 edgeStep f words keys edge left ref = edgeFrom f words edge (arrivalAt f words keys left (placeAt ref))
 
+-- the answer of a step that goes no further
 abbrev pub edgeEnded : EdgeStep → Found
 edgeEnded (Next r) = Damaged
 edgeEnded (Final a) = a
@@ -53,9 +55,11 @@ edgeOf f words keys edge zero ref = edgeEnded (edgeStep f words keys edge 0 ref)
 edgeOf f words keys edge (suc left) ref =
     elim (edgeStep f words keys edge (suc left) ref) [ Next r ↦ edgeOf f words keys edge left r | Final a ↦ a ]
 
+-- from the root, with as many inner records on a path as the longest tag has bytes
 abbrev pub edgeLeaf : List ℕ → List ℕ → Edge → Found
 edgeLeaf words keys edge = fromRoot words keys (λ f. edgeOf f words keys edge (f .form .limit) (rootWord words))
 
+-- the first tag is down the lowest children, the last down the highest
 abbrev pub minimumOf : List ℕ → List ℕ → Found
 minimumOf words keys = edgeLeaf words keys Low
 

@@ -2,4 +2,3 @@ pub mod Answer
 pub mod Arrive
 pub mod Walk
 pub mod Edge
-pub mod Leaf

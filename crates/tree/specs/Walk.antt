@@ -40,6 +40,7 @@ abbrev pub fits : Aim → List ℕ → List ℕ → Bool
 fits Exact given held = same given held
 fits Begin given held = begins held given
 
+-- the leaf is found where it fits, else nothing is
 unfoldable pub leafAnswer : List ℕ → List ℕ → List ℕ → Aim → ℕ → ℕ → PrefixMatchBehavior → Found
 leafAnswer rec key tag aim n depth behavior =
     let from = compareFrom (length tag) (getD rec 1 0) depth behavior in
@@ -50,14 +51,17 @@ leafAnswer rec key tag aim n depth behavior =
 abbrev pub childStep : ℕ → ℕ → PrefixMatchBehavior → Step
 childStep child depth behavior = choose (eqb child 0) (Final Missing) (Next child depth behavior)
 
+-- where comparing leaves the prefix nothing is found
 abbrev pub afterMatch : Form → ℕ → List ℕ → List ℕ → PrefixMatch → Step
 afterMatch form kind rec tag (On d behavior) = childStep (childAt form kind rec (getD tag d 0)) (d + 1) behavior
 afterMatch form kind rec tag (Off agreed) = Final Missing
 
+-- by what comparing its prefix gives
 unfoldable pub innerStep : Form → ℕ → List ℕ → List ℕ → ℕ → PrefixMatchBehavior → Step
 innerStep form kind rec tag depth behavior = afterMatch form kind rec tag (matchOf (prefixAt form rec) tag depth behavior)
 
 -- ── the walk ──
+-- at a leaf, at an inner record, or where the way is broken
 abbrev pub stepFrom : Frame → List ℕ → List ℕ → List ℕ → Aim → ℕ → PrefixMatchBehavior → Arrival → Step
 stepFrom f words keys tag aim depth behavior (Leaf n start) =
     Final (leafAnswer (between words start (start + 6)) (between keys (n * f .form .limit) (n * f .form .limit + f .form .limit)) tag aim n depth behavior)
@@ -69,20 +73,25 @@ stepFrom f words keys tag aim depth behavior Broken = Final Damaged
 unfoldable pub stepOf : Frame → List ℕ → List ℕ → List ℕ → Aim → ℕ → ℕ → ℕ → PrefixMatchBehavior → Step
 stepOf f words keys tag aim left ref depth behavior = stepFrom f words keys tag aim depth behavior (arrivalAt f words keys left (placeAt ref))
 
+-- the answer of a step that goes no further
 abbrev pub endedOf : Step → Found
 endedOf (Next r d s) = Damaged
 endedOf (Final a) = a
 
+-- step by step, with so many inner records left on the path
 unfoldable pub walkOf : Frame → List ℕ → List ℕ → List ℕ → Aim → ℕ → ℕ → ℕ → PrefixMatchBehavior → Found
 walkOf f words keys tag aim zero ref depth behavior = endedOf (stepOf f words keys tag aim 0 ref depth behavior)
 walkOf f words keys tag aim (suc left) ref depth behavior =
     elim (stepOf f words keys tag aim (suc left) ref depth behavior) [ Next r d s ↦ walkOf f words keys tag aim left r d s | Final a ↦ a ]
 
+-- from the root at depth 0, no byte skipped, with as many inner records on a path as the longest tag has bytes
 abbrev pub findOf : List ℕ → List ℕ → List ℕ → Aim → Found
 findOf words keys tag aim = fromRoot words keys (λ f. walkOf f words keys tag aim (f .form .limit) (rootWord words) 0 Pessimistic)
 
+-- search: the leaf that has the whole tag
 abbrev pub searchOf : List ℕ → List ℕ → List ℕ → Found
 searchOf words keys tag = findOf words keys tag Exact
 
+-- prefix search: the leaf whose tag begins the given bytes
 abbrev pub prefixSearchOf : List ℕ → List ℕ → List ℕ → Found
 prefixSearchOf words keys tag = findOf words keys tag Begin

@@ -56,20 +56,24 @@ pub fn rule_at(words: &[u32], keys: &[u8], f: Frame, reference: u32) -> bool
     inner_rule(words, f.form, reference % 8, start)
 }
 
-// Arriving with so many inner records left on the path, this one included.
+// Arriving with so many inner records left on the path, this one included. The record's first word is looked up once, for the rule and for the answer.
 pub fn arrive(words: &[u32], keys: &[u8], f: Frame, left: u32, reference: u32) -> Arrival
     requires { ⌜ FrameOf f (now words) (now keys) ⌝ }
     ensures { λ r. ⌜ r ≡ arrivalAt f (now (words .entry)) (now (keys .entry)) left (placeAt reference) ⌝ }
 {
-    if !frame::in_pool(f, reference) {
+    if !frame::pool_has(words, keys, f, reference) {
         return Arrival::Broken;
     }
-    if !rule_at(words, keys, f, reference) {
-        return Arrival::Broken;
-    }
-    let start = frame::start_at(f, reference);
+    let start = frame::pool_start(words, keys, f, reference);
+    let form = f.form;
     if reference % 8 == 5 {
-        return Arrival::Leaf(reference / 8, start);
+        if leaf_rule(words, keys, form.limit as usize, reference / 8, start) {
+            return Arrival::Leaf(reference / 8, start);
+        }
+        return Arrival::Broken;
+    }
+    if !inner_rule(words, form, reference % 8, start) {
+        return Arrival::Broken;
     }
     if left == 0 {
         return Arrival::Broken;

@@ -194,16 +194,18 @@ fn ended(s: Step) -> Found
     }
 }
 
-// The walk from the root.
+// The walk from the root. `left` counts the steps: as many inner records as a tag may have bytes, and the leaf. One call of `step_at` stands for all of them,
+// so that it is compiled into the loop and the frame is not copied at each step.
 fn walk(words: &[u32], keys: &[u8], f: Frame, tag: &[u8], aim: Aim, root: u32) -> Found
     requires { ⌜ FrameOf f (now words) (now keys) ⌝ }
     ensures { λ r. ⌜ r ≡ walkOf f (now (words .entry)) (now (keys .entry)) (now (tag .entry)) aim (f .form .limit) root 0 PrefixMatchBehavior.Pessimistic ⌝ }
 {
-    let mut left: u32 = f.form.limit;
+    let mut left: u32 = f.form.limit + 1;
     let mut reference = root;
     let mut depth: usize = 0;
     let mut behavior = PrefixMatchBehavior::Pessimistic;
     while 0 < left {
+        left -= 1;
         let s = step_at(words, keys, f, tag, aim, left, reference, depth, behavior);
         let Step::Next(r, d, b) = s else {
             return ended(s);
@@ -211,10 +213,8 @@ fn walk(words: &[u32], keys: &[u8], f: Frame, tag: &[u8], aim: Aim, root: u32) -
         reference = r;
         depth = d;
         behavior = b;
-        left -= 1;
     }
-    let last = step_at(words, keys, f, tag, aim, 0, reference, depth, behavior);
-    ended(last)
+    Found::Damaged
 }
 
 // Frame, root, then the walk.

@@ -95,23 +95,22 @@ fn edge_ended(s: EdgeStep) -> Found
     }
 }
 
-// The way down from the root.
+// The way down from the root, with the steps counted as in the walk.
 pub fn edge_walk(words: &[u32], keys: &[u8], f: Frame, edge: Edge, root: u32) -> Found
     requires { ⌜ FrameOf f (now words) (now keys) ⌝ }
     ensures { λ r. ⌜ r ≡ edgeOf f (now (words .entry)) (now (keys .entry)) edge (f .form .limit) root ⌝ }
 {
-    let mut left: u32 = f.form.limit;
+    let mut left: u32 = f.form.limit + 1;
     let mut reference = root;
     while 0 < left {
+        left -= 1;
         let s = edge_step(words, keys, f, edge, left, reference);
         let EdgeStep::Next(r) = s else {
             return edge_ended(s);
         };
         reference = r;
-        left -= 1;
     }
-    let last = edge_step(words, keys, f, edge, 0, reference);
-    edge_ended(last)
+    Found::Damaged
 }
 
 fn edge_leaf(words: &[u32], keys: &[u8], edge: Edge) -> Found

@@ -14,10 +14,10 @@ use Rattle.frames.specs.Place.{inPool, sizeAt, recordAt, putAt}
 use Rattle.frames.specs.declared.frame.Frame.{Frame}
 use Rattle.frames.proofs.Places.{record-length}
 use Rattle.art.specs.Stores.{leaf-place, inner-place}
-use Rattle.art.specs.Chain.{Links, leaf-ref, set-links, link-in, link-out}
+use Rattle.art.specs.Chain.{Links, leaf-ref, set-links, link-in, link-out, own-links, set-after, set-before}
 use Rattle.pools.specs.Leaf.{leafWords, setTotal}
-use Rattle.pools.specs.Link.{LeafOrEnd, setTrailer, setNext, setPrevious}
-use Rattle.view.specs.Links.{Way, setLink, linkAt, linksOf, own-links, set-after, set-before}
+use Rattle.pools.specs.Link.{LeafOrEnd, setTrailer, setNext, setPrevious, setLink}
+use Rattle.view.specs.Links.{Direction, linkAt, linksOf}
 use Rattle.view.proofs.Puts.{put-same, put-other, put-trailer, put-fits}
 use Rattle.view.proofs.Leaves.{total-long, total-front}
 use Rattle.view.proofs.Trailers.{trailer-same, trailer-other, trailer-record}
@@ -105,7 +105,7 @@ module _ {f : Frame} {words keys : List ℕ} (w : FrameOf f words keys) where
         (trailer-other w i v h 12 (λ e. a (sym e))) (trailer-other w i v h 13 (λ e. b (sym e))) (trailer-link 2) (trailer-link 3)
 
   -- what comes after a leaf or before it: word t of the trailer, or word i of the leaf
-  module _ {t i : ℕ} (way : Way t i) (v : ℕ) where
+  module _ {t i : ℕ} (way : Direction t i) (v : ℕ) where
     by-put : (ref : ℕ) (u : (n : ℕ) × (ref ≡ leaf-ref n) × (inPool f (leaf-place n) ≡ true))
         → setLink t i f ref v words ≡ putAt f words (leaf-place (u .0)) (set (recordAt f words (leaf-place (u .0))) i v)
     by-put ref u = link-put w way v ref (u .0) (u .1)
@@ -157,31 +157,28 @@ module _ {f : Frame} {words keys : List ℕ} (w : FrameOf f words keys) where
         go (no a) = refl
 
   pub next-links : (ref v : ℕ) → LeafOrEnd f ref → linksOf f (setNext f ref v words) ≡ set-after (linksOf f words) ref v
-  unfolding linksOf setNext setLink
+  unfolding linksOf setNext
   next-links ref v h =
       links-ext (linksOf f (setNext f ref v words)) (set-after (linksOf f words) ref v)
       (end-here next-way v ref h) (end-there next-way v ref h 13 (λ e. omega arith)) (link-there next-way v ref h 2 (λ e. omega arith)) (link-here next-way v ref h)
 
   pub previous-links : (ref v : ℕ) → LeafOrEnd f ref → linksOf f (setPrevious f ref v words) ≡ set-before (linksOf f words) ref v
-  unfolding linksOf setPrevious setLink
+  unfolding linksOf setPrevious
   previous-links ref v h =
       links-ext (linksOf f (setPrevious f ref v words)) (set-before (linksOf f words) ref v)
       (end-there previous-way v ref h 12 (λ e. omega arith)) (end-here previous-way v ref h) (link-here previous-way v ref h) (link-there previous-way v ref h 3 (λ e. omega arith))
 
   -- the trailer's other words
   pub next-trailer : (ref v : ℕ) → LeafOrEnd f ref → (j : ℕ) → j ≢ 12 → getD (trailerOf (setNext f ref v words)) j 0 ≡ getD (trailerOf words) j 0
-  unfolding setNext setLink
+  unfolding setNext
   next-trailer ref v = end-there next-way v ref
 
   pub previous-trailer : (ref v : ℕ) → LeafOrEnd f ref → (j : ℕ) → j ≢ 13 → getD (trailerOf (setPrevious f ref v words)) j 0 ≡ getD (trailerOf words) j 0
-  unfolding setPrevious setLink
+  unfolding setPrevious
   previous-trailer ref v = end-there previous-way v ref
 
 -- ── a leaf linked in, and taken out ──
 -- the order of the three writes does not matter, where the neighbours are other leaves
-pub own-last : (k : Links) (n p q a x b y : ℕ) → own-links (set-before (set-after k a x) b y) n p q ≡ set-links k n p q a x b y
-own-last k n p q a x b y = refl
-
 pub own-first : (k : Links) (n p q a x b y : ℕ) → a ≢ leaf-ref n → b ≢ leaf-ref n → set-before (set-after (own-links k n p q) a x) b y ≡ set-links k n p q a x b y
 own-first k n p q a x b y na nb =
     links-ext (set-before (set-after (own-links k n p q) a x) b y) (set-links k n p q a x b y) refl refl

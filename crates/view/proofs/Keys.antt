@@ -10,11 +10,11 @@ use lib.ListN.{length}
 use Rattle.lists.proofs.Parts.{splice-length, splice-same, splice-before, splice-after}
 use Rattle.frames.specs.Frame.{FrameOf}
 use Rattle.frames.specs.Place.{inPool, keyAt, putAt, putKey}
-use Rattle.records.specs.View.{leafCell, cellOf}
+use Rattle.records.specs.View.{leafCell, cellOf, keyFor}
 use Rattle.frames.specs.declared.frame.Frame.{Frame}
 use Rattle.frames.proofs.Places.{leaf-room}
 use Rattle.art.specs.Stores.{Place, leaf-place, inner-place, write}
-use Rattle.view.specs.Cells.{keyFor, wordZero, Same}
+use Rattle.view.specs.Cells.{wordZero, Same}
 use Rattle.view.proofs.Apart.{keys-apart}
 use Rattle.view.proofs.Views.{cell-free, same-at, same-view, one-cell}
 use Rattle.view.proofs.Puts.{frame-stays, put-same, put-other, put-fits}

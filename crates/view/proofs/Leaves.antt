@@ -15,12 +15,12 @@ use Rattle.frames.specs.Form.{recordWords}
 use Rattle.frames.specs.Frame.{FrameOf}
 use Rattle.records.specs.Own.{leafOk, totalOf}
 use Rattle.frames.specs.Place.{inPool, sizeAt, recordAt, keyAt, putAt, putKey}
-use Rattle.records.specs.View.{Held, leafCell, cellOf, ruleAt, blankAt}
+use Rattle.records.specs.View.{Held, leafCell, cellOf, ruleAt, blankAt, keyFor}
 use Rattle.frames.specs.declared.frame.Frame.{Frame}
 use Rattle.frames.proofs.Places.{record-length}
 use Rattle.art.specs.Stores.{Place, leaf-place, inner-place, unused, leaf-cell, write}
-use Rattle.pools.specs.Leaf.{leafWords, setTotal, keyBytes}
-use Rattle.view.specs.Cells.{keyFor}
+use Rattle.lists.specs.Edit.{padded}
+use Rattle.pools.specs.Leaf.{leafWords, setTotal}
 use Rattle.view.proofs.Views.{zero-first, free-cell}
 use Rattle.view.proofs.Puts.{put-same, put-cell}
 use Rattle.view.proofs.Keys.{key-same, leaf-view}
@@ -36,22 +36,19 @@ unfolding leafWords totalOf
 words-total len p q total = omega arith
 
 module _ (limit : ℕ) (tag : List ℕ) (short : length tag ≤ limit) where
-  pub bytes-long : length (keyBytes limit tag) ≡ limit
-  unfolding keyBytes
+  pub bytes-long : length (padded limit tag) ≡ limit
   bytes-long = simp (length-append, length-replicate) (omega arith)
 
-  pub bytes-tag : take (length tag) (keyBytes limit tag) ≡ tag
-  unfolding keyBytes
+  pub bytes-tag : take (length tag) (padded limit tag) ≡ tag
   bytes-tag = take-at tag (replicate (limit - length tag) 0) (length tag) refl
 
-  bytes-rest : all (atMost 0) (between (keyBytes limit tag) (length tag) limit) ≡ true
-  unfolding keyBytes
+  bytes-rest : all (atMost 0) (between (padded limit tag) (length tag) limit) ≡ true
   bytes-rest =
-      all-take (atMost 0) (limit - length tag) (drop (length tag) (keyBytes limit tag))
+      all-take (atMost 0) (limit - length tag) (drop (length tag) (padded limit tag))
       (ap (all (atMost 0)) (drop-at tag (replicate (limit - length tag) 0) (length tag) refl) ∙ zeros-all (limit - length tag) 0)
 
   module _ (p q total : ℕ) where
-    pub words-cell : (n : ℕ) → leafCell n (leafWords (length tag) p q total) (keyBytes limit tag) ≡ leaf-cell tag (record { number = n; total = total })
+    pub words-cell : (n : ℕ) → leafCell n (leafWords (length tag) p q total) (padded limit tag) ≡ leaf-cell tag (record { number = n; total = total })
     unfolding leafWords
     words-cell n =
         ap₂ (λ (t : List ℕ) (v : ℕ). leaf-cell t (held n v)) bytes-tag (words-total (length tag) p q total)
@@ -59,7 +56,7 @@ module _ (limit : ℕ) (tag : List ℕ) (short : length tag ≤ limit) where
         held : ℕ → ℕ → Held
         held m v = record { number = m; total = v }
 
-    pub words-rule : leafOk limit (leafWords (length tag) p q total) (keyBytes limit tag) ≡ true
+    pub words-rule : leafOk limit (leafWords (length tag) p q total) (padded limit tag) ≡ true
     unfolding leafWords leafOk
     words-rule = and-both (le-leb (length tag) limit short) bytes-rest
 
@@ -67,17 +64,17 @@ module _ (limit : ℕ) (tag : List ℕ) (short : length tag ≤ limit) where
 module _ {f : Frame} {words keys : List ℕ} (w : FrameOf f words keys) (n : ℕ) (hn : inPool f (leaf-place n) ≡ true) where
   module _ (tag : List ℕ) (short : length tag ≤ f .form .limit) (p q total : ℕ) where
     -- the write of a tag and a total
-    pub write-leaf : cellOf f (putAt f words (leaf-place n) (leafWords (length tag) p q total)) (putKey f keys n (keyBytes (f .form .limit) tag))
+    pub write-leaf : cellOf f (putAt f words (leaf-place n) (leafWords (length tag) p q total)) (putKey f keys n (padded (f .form .limit) tag))
         ≡ write (cellOf f words keys) (leaf-place n) (leaf-cell tag (record { number = n; total = total }))
     write-leaf =
-        leaf-view w n (keyBytes (f .form .limit) tag) hn (bytes-long (f .form .limit) tag short) (leafWords (length tag) p q total) (words-long (length tag) p q total)
+        leaf-view w n (padded (f .form .limit) tag) hn (bytes-long (f .form .limit) tag short) (leafWords (length tag) p q total) (words-long (length tag) p q total)
         ∙ ap (write (cellOf f words keys) (leaf-place n)) (words-cell (f .form .limit) tag short p q total n)
 
-    pub write-rule : ruleAt f (putAt f words (leaf-place n) (leafWords (length tag) p q total)) (putKey f keys n (keyBytes (f .form .limit) tag)) (leaf-place n) ≡ true
+    pub write-rule : ruleAt f (putAt f words (leaf-place n) (leafWords (length tag) p q total)) (putKey f keys n (padded (f .form .limit) tag)) (leaf-place n) ≡ true
     write-rule =
         ap₂ (λ (r k : List ℕ). leafOk (f .form .limit) r k)
         (put-same w (leaf-place n) (leafWords (length tag) p q total) hn (words-long (length tag) p q total))
-        (key-same w n (keyBytes (f .form .limit) tag) hn (bytes-long (f .form .limit) tag short))
+        (key-same w n (padded (f .form .limit) tag) hn (bytes-long (f .form .limit) tag short))
         ∙ words-rule (f .form .limit) tag short p q total
 
   -- ── a leaf cleared ──

@@ -19,9 +19,9 @@ use Rattle.frames.specs.declared.frame.Frame.{Frame}
 use Rattle.frames.proofs.Places.{place-leaf, inner-kind, record-length}
 use Rattle.art.specs.Stores.{Place, leaf-place, inner-place, place-dec}
 use Rattle.art.specs.Chain.{leaf-ref}
-use Rattle.pools.specs.Link.{LeafOrEnd, setTrailer, setNext, setPrevious}
+use Rattle.pools.specs.Link.{LeafOrEnd, setTrailer, setNext, setPrevious, setLink}
 use Rattle.view.specs.Cells.{wordZero, Same}
-use Rattle.view.specs.Links.{UsedOrEnd, Way, setLink}
+use Rattle.view.specs.Links.{UsedOrEnd, Direction}
 use Rattle.view.proofs.Views.{cell-in, used-place, same-view}
 use Rattle.view.proofs.Puts.{put-same, put-other, put-fits, put-keeps}
 use Rattle.view.proofs.Trailers.{trailer-record, trailer-keeps, trailer-fits}
@@ -30,10 +30,10 @@ pub used-leaf : (f : Frame) (words keys : List ℕ) (ref : ℕ) → UsedOrEnd f 
 used-leaf f words keys ref (inl e) = inl e
 used-leaf f words keys ref (inr u) = inr (u .0, u .1, used-place f words keys (leaf-place (u .0)) (u .2) .0)
 
-pub next-way : Way 12 3
+pub next-way : Direction 12 3
 next-way = record { trailer-low = omega arith; trailer-high = omega arith; leaf-low = omega arith; leaf-high = omega arith }
 
-pub previous-way : Way 13 2
+pub previous-way : Direction 13 2
 previous-way = record { trailer-low = omega arith; trailer-high = omega arith; leaf-low = omega arith; leaf-high = omega arith }
 
 -- a leaf's words 0 and 1 and its total are all that its cell and its rule go by
@@ -42,7 +42,7 @@ leaf-same : (n limit : ℕ) (rec rec′ key : List ℕ) → getD rec′ 0 0 ≡ 
 unfolding leafOk
 leaf-same n limit rec rec′ key a b c = (rw (a, b, c), rw (a, b))
 
-module _ {f : Frame} {words keys : List ℕ} {t i : ℕ} (w : FrameOf f words keys) (way : Way t i) (v : ℕ) where
+module _ {f : Frame} {words keys : List ℕ} {t i : ℕ} (w : FrameOf f words keys) (way : Direction t i) (v : ℕ) where
   pub link-trailer : (ref : ℕ) → ref ≡ 0 → setLink t i f ref v words ≡ setTrailer t v words
   unfolding setLink
   link-trailer ref e = ap (λ (b : Bool). choose b (setTrailer t v words) (set words (startAt f (placeAt ref) + i) v)) (eq-eqb ref 0 e)
@@ -140,35 +140,35 @@ module _ {f : Frame} {words keys : List ℕ} {t i : ℕ} (w : FrameOf f words ke
 -- ── what comes after a leaf, and what comes before it ──
 module _ {f : Frame} {words keys : List ℕ} (w : FrameOf f words keys) (ref v : ℕ) where
   pub next-fits : LeafOrEnd f ref → FrameOf f (setNext f ref v words) keys
-  unfolding setNext setLink
+  unfolding setNext
   next-fits = link-fits w next-way v ref
 
   pub next-view : LeafOrEnd f ref → cellOf f (setNext f ref v words) keys ≡ cellOf f words keys
-  unfolding setNext setLink
+  unfolding setNext
   next-view = link-view w next-way v ref
 
   pub next-keeps : UsedOrEnd f words keys ref → (x : Place) → inPool f x ≡ true → Same f words keys (setNext f ref v words) keys x
-  unfolding setNext setLink
+  unfolding setNext
   next-keeps = link-keeps w next-way v ref
 
   pub next-record : LeafOrEnd f ref → (x : Place) → inPool f x ≡ true → refOf x ≢ ref → recordAt f (setNext f ref v words) x ≡ recordAt f words x
-  unfolding setNext setLink
+  unfolding setNext
   next-record = link-record w next-way v ref
 
   pub previous-fits : LeafOrEnd f ref → FrameOf f (setPrevious f ref v words) keys
-  unfolding setPrevious setLink
+  unfolding setPrevious
   previous-fits = link-fits w previous-way v ref
 
   pub previous-view : LeafOrEnd f ref → cellOf f (setPrevious f ref v words) keys ≡ cellOf f words keys
-  unfolding setPrevious setLink
+  unfolding setPrevious
   previous-view = link-view w previous-way v ref
 
   pub previous-keeps : UsedOrEnd f words keys ref → (x : Place) → inPool f x ≡ true → Same f words keys (setPrevious f ref v words) keys x
-  unfolding setPrevious setLink
+  unfolding setPrevious
   previous-keeps = link-keeps w previous-way v ref
 
   pub previous-record : LeafOrEnd f ref → (x : Place) → inPool f x ≡ true → refOf x ≢ ref → recordAt f (setPrevious f ref v words) x ≡ recordAt f words x
-  unfolding setPrevious setLink
+  unfolding setPrevious
   previous-record = link-record w previous-way v ref
 
 -- no such reference names an inner record

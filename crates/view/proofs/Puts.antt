@@ -11,13 +11,13 @@ use Rattle.lists.specs.Part.{between}
 use Rattle.lists.proofs.Parts.{splice-length, splice-same, splice-before, splice-after}
 use Rattle.frames.specs.Frame.{FrameOf, frameFits, frameOf, trailerOf, trailerFits}
 use Rattle.frames.specs.Place.{inPool, startAt, sizeAt, recordAt, putAt}
-use Rattle.records.specs.View.{Held, cellOf, ruleAt, blankAt}
+use Rattle.records.specs.View.{Held, cellOf, ruleAt, blankAt, keyFor, cellIn, ruleIn, blankIn}
 use Rattle.frames.specs.declared.frame.Frame.{Frame}
 use Rattle.frames.proofs.Places.{place-room}
 use Rattle.art.specs.Stores.{Place, Store, write, apply}
-use Rattle.view.specs.Cells.{keyFor, cellIn, ruleIn, blankIn, Same, putAll, cellsIn, Off, Fitting}
+use Rattle.view.specs.Cells.{Same, putAll, cellsIn, Off, Fitting}
 use Rattle.view.proofs.Apart.{apart}
-use Rattle.view.proofs.Views.{rule-is, blank-is, same-at, one-cell, same-then}
+use Rattle.view.proofs.Views.{same-at, one-cell, same-then}
 
 -- the frame stays where the trailer and both lengths do
 pub frame-stays : {f : Frame} {words keys : List ℕ} → FrameOf f words keys → (words′ keys′ : List ℕ) → length words′ ≡ length words → length keys′ ≡ length keys
@@ -73,10 +73,10 @@ module _ {f : Frame} {words keys : List ℕ} (w : FrameOf f words keys) (y : Pla
 
   -- its rule, and whether it is blank
   pub put-rule : ruleAt f (putAt f words y rec) keys y ≡ ruleIn f y rec (keyFor f keys y)
-  put-rule = rule-is f (putAt f words y rec) keys y ∙ ap (λ (l : List ℕ). ruleIn f y l (keyFor f keys y)) put-same
+  put-rule = ap (λ (l : List ℕ). ruleIn f y l (keyFor f keys y)) put-same
 
   pub put-blank : blankAt f (putAt f words y rec) keys y ≡ blankIn y rec (keyFor f keys y)
-  put-blank = blank-is f (putAt f words y rec) keys y ∙ ap (λ (l : List ℕ). blankIn y l (keyFor f keys y)) put-same
+  put-blank = ap (λ (l : List ℕ). blankIn y l (keyFor f keys y)) put-same
 
 -- ── several writes ──
 module _ {f : Frame} {keys : List ℕ} where

@@ -25,9 +25,8 @@ use Rattle.frames.proofs.FormTable.{stored-eight}
 use Rattle.frames.proofs.Places.{inner-kind, record-length, key-length}
 use Rattle.records.proofs.RowRules.{row-rule}
 use Rattle.art.specs.Stores.{Place, leaf-place, inner-place, Cell, unused, leaf-cell, inner-cell, Used}
-use Rattle.pools.specs.Leaf.{keyBytes}
 use Rattle.view.specs.Cells.{wordZero}
-use Rattle.view.specs.Seen.{LeafSeen, InnerSeen, LeafObeys, InnerObeys}
+use Rattle.view.specs.Seen.{LeafShows, InnerShows, LeafObeys, InnerObeys}
 
 -- a used cell comes from a pool, and from a record in use
 picked : (b z : Bool) (c d : Cell Held) → choose b (choose z unused c) unused ≡ d → Used d → (b ≡ true) × (z ≡ false) × (c ≡ d)
@@ -55,14 +54,14 @@ module _ (f : Frame) (words keys : List ℕ) where
   unfolding cellOf
   inner-picked k n d = picked (inPool f (inner-place k n)) (eqb (wordZero f words (inner-place k n)) 0) (innerShown k n) d
 
-  pub seen-leaf : (n : ℕ) (tag : List ℕ) (a : Held) → cellOf f words keys (leaf-place n) ≡ leaf-cell tag a → LeafSeen f words keys n tag a
+  pub seen-leaf : (n : ℕ) (tag : List ℕ) (a : Held) → cellOf f words keys (leaf-place n) ≡ leaf-cell tag a → LeafShows f words keys n tag a
   seen-leaf n tag a h =
       let r = leaf-picked n (leaf-cell tag a) h tt in
       let e : leafShown n ≡ leaf-cell tag a = r .2 in
       record { pool = r .0; used = eqb-false _ _ (r .1); tag-is = cc; number-is = cc; total-is = cc }
 
   pub seen-inner : (k n len : ℕ) (stored : List ℕ) (refs : List (ℕ × Place)) → cellOf f words keys (inner-place k n) ≡ inner-cell len stored refs
-      → InnerSeen f words k n len stored refs
+      → InnerShows f words k n len stored refs
   seen-inner k n len stored refs h =
       let r = inner-picked k n (inner-cell len stored refs) h tt in
       let e : innerShown k n ≡ inner-cell len stored refs = r .2 in
@@ -86,8 +85,7 @@ places-length [] = refl
 places-length (e ∷ es) = ap suc (places-length es)
 
 module _ {f : Frame} {words keys : List ℕ} (w : FrameOf f words keys) where
-  pub leaf-obeys : {n : ℕ} {tag : List ℕ} {a : Held} → LeafSeen f words keys n tag a → ruleAt f words keys (leaf-place n) ≡ true → LeafObeys f words keys n tag
-  unfolding keyBytes
+  pub leaf-obeys : {n : ℕ} {tag : List ℕ} {a : Held} → LeafShows f words keys n tag a → ruleAt f words keys (leaf-place n) ≡ true → LeafObeys f words keys n tag
   leaf-obeys {n} {tag} {a} s h =
       let limit = f .form .limit in
       let key = keyAt f keys n in
@@ -106,7 +104,7 @@ module _ {f : Frame} {words keys : List ℕ} (w : FrameOf f words keys) where
         key-is = sym (take-append-drop len key) ∙ ap₂ (λ (x y : List ℕ). x ++ y) (sym (s .tag-is)) (rest ∙ ap (λ (m : ℕ). replicate (limit - m) 0) (sym size));
       }
 
-  pub inner-obeys : {k n len : ℕ} {stored : List ℕ} {refs : List (ℕ × Place)} → InnerSeen f words k n len stored refs → ruleAt f words keys (inner-place k n) ≡ true
+  pub inner-obeys : {k n len : ℕ} {stored : List ℕ} {refs : List (ℕ × Place)} → InnerShows f words k n len stored refs → ruleAt f words keys (inner-place k n) ≡ true
       → InnerObeys f words k n len stored refs
   unfolding prefixAt
   inner-obeys {k} {n} {len} {stored} {refs} s h =

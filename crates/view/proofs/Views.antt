@@ -8,33 +8,20 @@ use lib.ListN.{getD, replicate}
 use borrow.Author.Tests.{eq-eqb, ne-eqb}
 use Rattle.lists.specs.Scan.{choose}
 use Rattle.frames.specs.Place.{inPool, recordAt}
-use Rattle.records.specs.View.{rawCell, cellOf, ruleAt, blankAt}
+use Rattle.records.specs.View.{keyFor, cellIn, ruleIn, blankIn, rawCell, cellOf}
 use Rattle.frames.specs.declared.frame.Frame.{Frame}
 use Rattle.art.specs.Stores.{Place, leaf-place, inner-place, place-dec, unused, Used, write}
-use Rattle.view.specs.Cells.{keyFor, cellIn, ruleIn, blankIn, wordZero, Same}
+use Rattle.view.specs.Cells.{wordZero, Same}
 
 module _ (f : Frame) (words keys : List ℕ) where
-  raw-is : (x : Place) → rawCell f words keys x ≡ cellIn f x (recordAt f words x) (keyFor f keys x)
-  raw-is (leaf-place n) = refl
-  raw-is (inner-place k n) = refl
-
   -- the cell of a place of a pool, and of any other
   pub cell-in : (x : Place) → inPool f x ≡ true → cellOf f words keys x ≡ cellIn f x (recordAt f words x) (keyFor f keys x)
   unfolding cellOf
-  cell-in x h = ap (λ (b : Bool). choose b (rawCell f words keys x) unused) h ∙ raw-is x
+  cell-in x h = ap (λ (b : Bool). choose b (rawCell f words keys x) unused) h
 
   pub cell-out : (x : Place) → inPool f x ≡ false → cellOf f words keys x ≡ unused
   unfolding cellOf
   cell-out x h = ap (λ (b : Bool). choose b (rawCell f words keys x) unused) h
-
-  -- the rule and the blankness of a place
-  pub rule-is : (x : Place) → ruleAt f words keys x ≡ ruleIn f x (recordAt f words x) (keyFor f keys x)
-  rule-is (leaf-place n) = refl
-  rule-is (inner-place k n) = refl
-
-  pub blank-is : (x : Place) → blankAt f words keys x ≡ blankIn x (recordAt f words x) (keyFor f keys x)
-  blank-is (leaf-place n) = refl
-  blank-is (inner-place k n) = refl
 
 -- a cleared record has 0 in word 0
 pub zero-first : (size : ℕ) → _≡_ {A = ℕ} (getD (replicate size 0) 0 0) 0
@@ -74,8 +61,8 @@ module _ (f : Frame) (words keys words′ keys′ : List ℕ) where
   same-at x r k =
       record {
         cell = cell (inPool f x) refl;
-        rule = rule-is f words′ keys′ x ∙ ap₂ (ruleIn f x) r k ∙ sym (rule-is f words keys x);
-        blank = blank-is f words′ keys′ x ∙ ap₂ (blankIn x) r k ∙ sym (blank-is f words keys x);
+        rule = ap₂ (ruleIn f x) r k;
+        blank = ap₂ (blankIn x) r k;
       }
     where
       cell : (b : Bool) → inPool f x ≡ b → cellOf f words′ keys′ x ≡ cellOf f words keys x

@@ -1,16 +1,14 @@
--- What the cell, the rule and the blankness of a place are made of, and the places that a change leaves alone.
+-- The pool and number of a place, the places that a change leaves alone, and several records written.
 use Prim.Native.Nat.{ℕ}
 use mathlib.Core.Path.{_≡_}
 use mathlib.Core.Logic.{_≢_}
 use mathlib.Core.List.{List, [], _∷_}
-use mathlib.Core.Bool.{Bool, true, _&&_}
+use mathlib.Core.Bool.{true}
 use lib.ListN.{length, getD}
-use Rattle.lists.specs.Scan.{all, atMost}
-use Rattle.records.specs.Own.{leafOk, innerOk}
-use Rattle.frames.specs.Place.{inPool, sizeAt, recordAt, keyAt, putAt}
-use Rattle.records.specs.View.{Held, leafCell, innerCell, cellOf, ruleAt, blankAt}
+use Rattle.frames.specs.Place.{inPool, sizeAt, recordAt, putAt}
+use Rattle.records.specs.View.{Held, keyFor, cellIn, cellOf, ruleAt, blankAt}
 use Rattle.frames.specs.declared.frame.Frame.{Frame}
-use Rattle.art.specs.Stores.{Place, leaf-place, inner-place, Cell, Edits}
+use Rattle.art.specs.Stores.{Place, leaf-place, inner-place, Edits}
 
 -- a place's pool and its number there, leaves being kind 5
 abbrev pub kindAt : Place → ℕ
@@ -20,25 +18,6 @@ kindAt (inner-place k n) = k
 abbrev pub numberAt : Place → ℕ
 numberAt (leaf-place n) = n
 numberAt (inner-place k n) = n
-
--- the key bytes of a place: only leaves have them
-abbrev pub keyFor : Frame → List ℕ → Place → List ℕ
-keyFor f keys (leaf-place n) = keyAt f keys n
-keyFor f keys (inner-place k n) = []
-
--- the cell that a record and its key bytes make at a place
-abbrev pub cellIn : Frame → Place → List ℕ → List ℕ → Cell Held
-cellIn f (leaf-place n) rec key = leafCell n rec key
-cellIn f (inner-place k n) rec key = innerCell (f .form) k rec
-
--- its rule, and whether all of it is 0
-abbrev pub ruleIn : Frame → Place → List ℕ → List ℕ → Bool
-ruleIn f (leaf-place n) rec key = leafOk (f .form .limit) rec key
-ruleIn f (inner-place k n) rec key = innerOk (f .form) k rec
-
-abbrev pub blankIn : Place → List ℕ → List ℕ → Bool
-blankIn (leaf-place n) rec key = all (atMost 0) rec && all (atMost 0) key
-blankIn (inner-place k n) rec key = all (atMost 0) rec
 
 -- a record is free where its word 0 is 0
 abbrev pub wordZero : Frame → List ℕ → Place → ℕ

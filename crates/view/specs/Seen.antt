@@ -13,11 +13,11 @@ use Rattle.records.specs.Row.{rowAt}
 use Rattle.records.specs.View.{Held, places}
 use Rattle.frames.specs.declared.frame.Frame.{Frame}
 use Rattle.art.specs.Stores.{Place, leaf-place, inner-place}
-use Rattle.pools.specs.Leaf.{keyBytes}
+use Rattle.lists.specs.Edit.{padded}
 use Rattle.view.specs.Cells.{wordZero}
 
 -- leaf n shows this tag, and holds this
-pub record LeafSeen (f : Frame) (words keys : List ℕ) (n : ℕ) (tag : List ℕ) (a : Held) : Type 0 where
+pub record LeafShows (f : Frame) (words keys : List ℕ) (n : ℕ) (tag : List ℕ) (a : Held) : Type 0 where
   pub pool : inPool f (leaf-place n) ≡ true
   pub used : wordZero f words (leaf-place n) ≢ 0
   pub tag-is : tag ≡ take (getD (recordAt f words (leaf-place n)) 1 0) (keyAt f keys n)
@@ -25,7 +25,7 @@ pub record LeafSeen (f : Frame) (words keys : List ℕ) (n : ℕ) (tag : List �
   pub total-is : a .total ≡ totalOf (recordAt f words (leaf-place n))
 
 -- the inner record of this kind and number shows this length, these stored bytes and this row
-pub record InnerSeen (f : Frame) (words : List ℕ) (k n len : ℕ) (stored : List ℕ) (refs : List (ℕ × Place)) : Type 0 where
+pub record InnerShows (f : Frame) (words : List ℕ) (k n len : ℕ) (stored : List ℕ) (refs : List (ℕ × Place)) : Type 0 where
   pub pool : inPool f (inner-place k n) ≡ true
   pub used : wordZero f words (inner-place k n) ≢ 0
   pub len-is : len ≡ getD (recordAt f words (inner-place k n)) 2 0
@@ -37,7 +37,7 @@ pub record LeafObeys (f : Frame) (words keys : List ℕ) (n : ℕ) (tag : List �
   pub short : length tag ≤ f .form .limit
   pub in-use : wordZero f words (leaf-place n) ≡ 1
   pub len-is : getD (recordAt f words (leaf-place n)) 1 0 ≡ length tag
-  pub key-is : keyAt f keys n ≡ keyBytes (f .form .limit) tag
+  pub key-is : keyAt f keys n ≡ padded (f .form .limit) tag
 
 -- the child count is the row's length, and the stored bytes are eight, or as many as the length says
 pub record InnerObeys (f : Frame) (words : List ℕ) (k n len : ℕ) (stored : List ℕ) (refs : List (ℕ × Place)) : Type 0 where

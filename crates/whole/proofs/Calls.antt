@@ -9,7 +9,7 @@ use lib.Seq.{take-at, drop-at}
 use lib.Dec.{eqb}
 use borrow.Author.Tests.{eq-eqb, ne-eqb, lt-ltb, le-ltb}
 use Rattle.lists.specs.Scan.{choose}
-use Rattle.frames.specs.Frame.{trailerOf, frameFits, frameOf, FrameOf, rootWord, firstWord, lastWord, countWord}
+use Rattle.frames.specs.Frame.{frameFits, frame, FrameOf, rootWord, firstWord, lastWord, countWord}
 use Rattle.frames.specs.declared.frame.Frame.{Frame}
 use Rattle.whole.specs.Marks.{placesIn}
 use Rattle.whole.specs.Visit.{Way, way, recordBy}
@@ -73,14 +73,14 @@ module _ (f : Frame) {n : ℕ} {z : List ℕ} (long : n ≡ placesIn f) (ze : z 
 module _ (words keys scratch : List ℕ) where
   pub check-unframed : frameFits words keys ≡ false → answer Damaged scratch ≡ checkOf words keys scratch
   unfolding checkOf
-  check-unframed e = ap (λ (b : Bool). choose b (checkWith (frameOf (trailerOf words)) words keys scratch) (answer Damaged scratch)) (sym e)
+  check-unframed e = ap (λ (b : Bool). choose b (checkWith (frame words) words keys scratch) (answer Damaged scratch)) (sym e)
 
 module _ {words keys : List ℕ} (scratch : List ℕ) {f : Frame} (w : FrameOf f words keys) where
   framed-by : checkWith f words keys scratch ≡ checkOf words keys scratch
   unfolding checkOf
   framed-by =
       ap (λ (g : Frame). checkWith g words keys scratch) (w .read)
-      ∙ ap (λ (b : Bool). choose b (checkWith (frameOf (trailerOf words)) words keys scratch) (answer Damaged scratch)) (sym (w .fits))
+      ∙ ap (λ (b : Bool). choose b (checkWith (frame words) words keys scratch) (answer Damaged scratch)) (sym (w .fits))
 
   abbrev done : Answer
   done = answer (choose (wholeBy f words keys) Sound Damaged) (cleared (placesIn f) scratch)

@@ -14,16 +14,16 @@ use Rattle.lists.specs.Scan.{choose, all, atMost}
 use Rattle.lists.proofs.Tests.{both, and-both}
 use Rattle.lists.proofs.Tables.{both5}
 use Rattle.prefix.specs.Run.{held as stored}
-use Rattle.frames.specs.Frame.{trailerOf, frameFits, frameOf, FrameOf, rootWord, firstWord, lastWord, countWord}
+use Rattle.frames.specs.Frame.{trailerOf, frameFits, frameOf, FrameOf, rootWord, firstWord, lastWord, countWord, frame}
 use Rattle.frames.specs.Place.{placeAt, refOf, inPool, startAt, recordAt, keyAt}
 use Rattle.frames.specs.declared.frame.Frame.{Frame}
 use Rattle.frames.proofs.KindTable.{by-kind}
 use Rattle.frames.proofs.Places.{inner-kind, ref-place, place-ref}
 use Rattle.records.specs.Own.{prefixAt, totalOf}
-use Rattle.records.specs.Row.{rowAt}
+use Rattle.records.specs.Row.{rowAt, Climbs}
 use Rattle.records.specs.View.{Held, places, rawCell, cellOf, ruleAt, blankAt}
 use Rattle.records.proofs.Owns.{leaf-rule, inner-rule}
-use Rattle.records.proofs.RowRules.{Climbs, row-rule}
+use Rattle.records.proofs.RowRules.{row-rule}
 use Rattle.art.specs.Tags.{Tag, Listing}
 use Rattle.art.specs.Listings.{Every, under}
 use Rattle.art.proofs.Listings.{every-imp, every-append, every-under}
@@ -48,7 +48,7 @@ use Rattle.whole.specs.Visit.{Way, way, recordBy}
 use Rattle.whole.specs.Sweep.{allUnder, sweptAt, sweptPool, swept}
 use Rattle.whole.specs.Check.{atStart, rootWay, endedWell, wayWell, wholeBy, wholeOf, numberOf, checkOf}
 use Rattle.view.specs.Links.{linkAt, linksOf}
-use Rattle.whole.specs.Sound.{frame, Rooted, Sound}
+use Rattle.whole.specs.Sound.{Rooted, Sound}
 use Rattle.art.specs.Calls.{OnceOf}
 use Rattle.art.specs.Points.{store-of}
 use Rattle.whole.specs.declared.well_formed.Seen.{Seen}

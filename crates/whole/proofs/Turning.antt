@@ -18,17 +18,17 @@ use Rattle.frames.specs.declared.frame.Frame.{Frame}
 use Rattle.frames.proofs.Frames.{totals, formAt}
 use Rattle.frames.proofs.FormTable.{form-rules}
 use Rattle.records.specs.View.{ruleAt}
-use Rattle.records.specs.Row.{entryFrom}
+use Rattle.records.specs.Row.{entryFrom, Climbs}
 use Rattle.records.specs.declared.representation.Entry.{Entry}
 use Rattle.records.specs.declared.representation.Entry.the-variants.{Child, Nothing}
 use Rattle.records.proofs.Owns.{inner-rule}
-use Rattle.records.proofs.RowRules.{Climbs, climbs-lower, row-rule}
+use Rattle.records.proofs.RowRules.{climbs-lower, row-rule}
 use Rattle.art.specs.Stores.{Place, leaf-place, inner-place}
 use Rattle.tree.specs.Arrive.{arrivalAt, arrived, onPath, InnerThere}
 use Rattle.whole.specs.Arrive.{There, innerRec}
 use Rattle.whole.specs.Marks.{fresh, reached}
 use Rattle.whole.specs.Witness.{LeafSeen, WitnessSeen, tagAt, goesOn, storedAgrees}
-use Rattle.whole.specs.Visit.{Way, way, leafVisit, turnOf, turnAt, doneOf, firstOf, rowEnd, childEnd, onward, recordEnd, rowBy, rowFrom, rowOf, afterTurn, recordWith, recordBy, rowWay, Sees, Counted, RowReady}
+use Rattle.whole.specs.Visit.{Way, way, leafVisit, turnOf, turnAt, doneOf, firstOf, rowEnd, childEnd, wayOn, recordEnd, rowBy, rowFrom, rowOf, afterTurn, recordWith, recordBy, rowWay, Sees, Counted, RowReady}
 use Rattle.tree.specs.declared.arrive.Arrival.{Arrival}
 use Rattle.tree.specs.declared.arrive.Arrival.the-variants.{Leaf, Inner, Broken}
 use Rattle.whole.specs.declared.well_formed.Seen.{Seen}
@@ -213,7 +213,7 @@ module _ (f : Frame) (words keys : List ℕ) (left : ℕ) (row : Row) (b w : ℕ
     child = recordBy f words keys left r (row .depth + 1) m s
 
     row-child : rowWay f words keys left row b w m s
-        ≡ onward (childEnd f words keys (row .depth) x w (recordBy f words keys left r (row .depth + 1) m s .visit)) (recordBy f words keys left r (row .depth + 1) m s .marks)
+        ≡ wayOn (childEnd f words keys (row .depth) x w (recordBy f words keys left r (row .depth + 1) m s .visit)) (recordBy f words keys left r (row .depth + 1) m s .marks)
         (λ y m′ s′. rowWay f words keys left row (x + 1) y m′ s′)
     unfolding rowBy
     row-child = ap (λ (cs : List (ℕ × ℕ)). rowBy f words keys (recordBy f words keys left) (row .depth) w cs m s) e
@@ -222,13 +222,13 @@ module _ (f : Frame) (words keys : List ℕ) (left : ℕ) (row : Row) (b w : ℕ
         → rowWay f words keys left row b w m s ≡ way Ill (recordBy f words keys left r (row .depth + 1) m s .marks)
     row-ill h =
         row-child
-        ∙ ap (λ (v : Visit). onward v (recordBy f words keys left r (row .depth + 1) m s .marks) (λ y m′ s′. rowWay f words keys left row (x + 1) y m′ s′)) h
+        ∙ ap (λ (v : Visit). wayOn v (recordBy f words keys left r (row .depth + 1) m s .marks) (λ y m′ s′. rowWay f words keys left row (x + 1) y m′ s′)) h
 
     pub row-well : (y : ℕ) (z : Seen) → childEnd f words keys (row .depth) x w (recordBy f words keys left r (row .depth + 1) m s .visit) ≡ Well y z
         → rowWay f words keys left row b w m s ≡ rowWay f words keys left row (x + 1) y (recordBy f words keys left r (row .depth + 1) m s .marks) z
     row-well y z h =
         row-child
-        ∙ ap (λ (v : Visit). onward v (recordBy f words keys left r (row .depth + 1) m s .marks) (λ y m′ s′. rowWay f words keys left row (x + 1) y m′ s′)) h
+        ∙ ap (λ (v : Visit). wayOn v (recordBy f words keys left r (row .depth + 1) m s .marks) (λ y m′ s′. rowWay f words keys left row (x + 1) y m′ s′)) h
 
 -- ---- what is handed up
 module _ (f : Frame) (words keys : List ℕ) where
@@ -295,7 +295,7 @@ module _ (f : Frame) (words keys : List ℕ) where
   KeptBy g = (ref depth : ℕ) (m : List ℕ) (s : Seen) → s .count ≤ count nonzero m → Kept (g ref depth m s .marks) (g ref depth m s .visit)
 
   on-kept : (v : Visit) (m : List ℕ) (go : ℕ → List ℕ → Seen → Way) → Kept m v
-      → ((w : ℕ) (s : Seen) → WitnessSeen f words keys w → s .count ≤ count nonzero m → Kept (go w m s .marks) (go w m s .visit)) → Kept (onward v m go .marks) (onward v m go .visit)
+      → ((w : ℕ) (s : Seen) → WitnessSeen f words keys w → s .count ≤ count nonzero m → Kept (go w m s .marks) (go w m s .visit)) → Kept (wayOn v m go .marks) (wayOn v m go .visit)
   on-kept (Well w s) m go k h = h w s (leaf-witness (k .0)) (k .1)
   on-kept Ill m go k h = (tt, tt)
 

@@ -37,8 +37,8 @@ use Rattle.art.specs.Witness.{Hand, Tells, goes-on, probe-more, probe-refs, pro
 use Rattle.tree.specs.Arrive.{arrivalAt, arrived, onPath, InnerThere}
 use Rattle.whole.specs.Arrive.{innerRec}
 use Rattle.whole.specs.Marks.{placesIn, markAt, unmarked, fresh, reached}
-use Rattle.whole.specs.Witness.{tagLen, tagAt, goesOn, storedAgrees}
-use Rattle.whole.specs.Visit.{Way, way, leafVisit, turnOf, turnAt, firstOf, rowEnd, childEnd, onward, recordEnd, rowBy, rowFrom, rowOf, recordBy, rowWay}
+use Rattle.whole.specs.Witness.{tagAt, goesOn, storedAgrees}
+use Rattle.whole.specs.Visit.{Way, way, leafVisit, turnOf, turnAt, firstOf, rowEnd, childEnd, wayOn, recordEnd, rowBy, rowFrom, rowOf, recordBy, rowWay}
 use Rattle.view.specs.Links.{linkAt, linksOf}
 use Rattle.tree.specs.declared.arrive.Arrival.{Arrival}
 use Rattle.tree.specs.declared.arrive.Arrival.the-variants.{Leaf, Inner, Broken}
@@ -217,15 +217,15 @@ module _ (f : Frame) (words keys : List ℕ) where
   -- ---- a child of a row, after the first
   more-step : (e w b : ℕ) (x : Way) (o : Option (ℕ × State)) → Same x o → (w ≡ 0 → ⊥) → e < length (tagAt f words keys w) → (k : ℕ → List ℕ → Seen → Way) (q : State → Option State)
       → ((m : List ℕ) (s : Seen) (z : State) → Tally m s z → SameRow w (k w m s) (q z))
-      → SameRow w (onward (childEnd f words keys e b w (x .visit)) (x .marks) k) (and-then o (λ h. ite (goes-on e (tagAt f words keys w) b (tagAt f words keys (h .0))) (q (h .1)) none))
-  more-step e w b x none h n l k q r = ap (λ (v : Visit). onward v (x .marks) k .visit) (sym (child-ill f words keys e b w h))
+      → SameRow w (wayOn (childEnd f words keys e b w (x .visit)) (x .marks) k) (and-then o (λ h. ite (goes-on e (tagAt f words keys w) b (tagAt f words keys (h .0))) (q (h .1)) none))
+  more-step e w b x none h n l k q r = ap (λ (v : Visit). wayOn v (x .marks) k .visit) (sym (child-ill f words keys e b w h))
   more-step e w b x (some h) i n l k q r = go (goes-on e (tagAt f words keys w) b (tagAt f words keys (h .0)))
     where
       -- the child hands up a leaf
-      by : (v : Visit) → childEnd f words keys e b w (x .visit) ≡ v → (o : Option State) → SameRow w (onward v (x .marks) k) o → SameRow w (onward (childEnd f words keys e b w (x .visit)) (x .marks) k) o
-      by v a o j = subst (λ (u : Visit). SameRow w (onward u (x .marks) k) o) (sym a) j
+      by : (v : Visit) → childEnd f words keys e b w (x .visit) ≡ v → (o : Option State) → SameRow w (wayOn v (x .marks) k) o → SameRow w (wayOn (childEnd f words keys e b w (x .visit)) (x .marks) k) o
+      by v a o j = subst (λ (u : Visit). SameRow w (wayOn u (x .marks) k) o) (sym a) j
 
-      go : (d : Dec (take (suc e) (tagAt f words keys (h .0)) ≡ take e (tagAt f words keys w) ++ b ∷ [])) → SameRow w (onward (childEnd f words keys e b w (x .visit)) (x .marks) k) (ite d (q (h .1)) none)
+      go : (d : Dec (take (suc e) (tagAt f words keys (h .0)) ≡ take e (tagAt f words keys w) ++ b ∷ [])) → SameRow w (wayOn (childEnd f words keys e b w (x .visit)) (x .marks) k) (ite d (q (h .1)) none)
       go (yes a) =
           by (Well w (i .0)) (sym (child-well f words keys e b w (i .1) (first-some w (h .0) n) (true-goes e (tagAt f words keys w) b (tagAt f words keys (h .0)) l a))) (q (h .1)) (r (x .marks) (i .0) (h .1) (i .3))
       go (no a) =
@@ -247,16 +247,16 @@ module _ (f : Frame) (words keys : List ℕ) where
 
   refs-step : (e b : ℕ) (x : Way) (o : Option (ℕ × State)) → Same x o → (k : ℕ → List ℕ → Seen → Way) (q : ℕ → State → Option State)
       → ((w : ℕ) (m : List ℕ) (s : Seen) (z : State) → (w ≡ 0 → ⊥) → e < length (tagAt f words keys w) → Tally m s z → SameRow w (k w m s) (q w z))
-      → Same (onward (childEnd f words keys e b 0 (x .visit)) (x .marks) k)
+      → Same (wayOn (childEnd f words keys e b 0 (x .visit)) (x .marks) k)
       (and-then o (λ h. ite (goes-on e (tagAt f words keys (h .0)) b (tagAt f words keys (h .0))) (and-then (q (h .0) (h .1)) (λ s′. some (h .0, s′))) none))
-  refs-step e b x none h k q r = ap (λ (v : Visit). onward v (x .marks) k .visit) (sym (child-ill f words keys e b 0 h))
+  refs-step e b x none h k q r = ap (λ (v : Visit). wayOn v (x .marks) k .visit) (sym (child-ill f words keys e b 0 h))
   refs-step e b x (some h) i k q r = go (goes-on e (tagAt f words keys (h .0)) b (tagAt f words keys (h .0)))
     where
-      by : (v : Visit) → childEnd f words keys e b 0 (x .visit) ≡ v → (o : Option (ℕ × State)) → Same (onward v (x .marks) k) o → Same (onward (childEnd f words keys e b 0 (x .visit)) (x .marks) k) o
-      by v a o j = subst (λ (u : Visit). Same (onward u (x .marks) k) o) (sym a) j
+      by : (v : Visit) → childEnd f words keys e b 0 (x .visit) ≡ v → (o : Option (ℕ × State)) → Same (wayOn v (x .marks) k) o → Same (wayOn (childEnd f words keys e b 0 (x .visit)) (x .marks) k) o
+      by v a o j = subst (λ (u : Visit). Same (wayOn u (x .marks) k) o) (sym a) j
 
       go : (d : Dec (take (suc e) (tagAt f words keys (h .0)) ≡ take e (tagAt f words keys (h .0)) ++ b ∷ []))
-          → Same (onward (childEnd f words keys e b 0 (x .visit)) (x .marks) k) (ite d (and-then (q (h .0) (h .1)) (λ s′. some (h .0, s′))) none)
+          → Same (wayOn (childEnd f words keys e b 0 (x .visit)) (x .marks) k) (ite d (and-then (q (h .0) (h .1)) (λ s′. some (h .0, s′))) none)
       go (yes a) =
           let l = goes-self e b (tagAt f words keys (h .0)) a in
           by (Well (h .0) (i .0)) (sym (child-well f words keys e b 0 (i .1) (first-none 0 (h .0) refl) (true-goes e (tagAt f words keys (h .0)) b (tagAt f words keys (h .0)) l a)))

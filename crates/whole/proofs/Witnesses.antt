@@ -19,7 +19,7 @@ use Rattle.frames.specs.Place.{placeAt, inPool, startAt, recordAt, keyAt}
 use Rattle.frames.specs.declared.frame.Frame.{Frame}
 use Rattle.records.proofs.Owns.{leaf-rule}
 use Rattle.art.specs.Stores.{leaf-place}
-use Rattle.whole.specs.Witness.{LeafSeen, tagLen, tagAt, goesOn, storedAgrees}
+use Rattle.whole.specs.Witness.{LeafSeen, lengthAt, tagAt, goesOn, storedAgrees}
 use Rattle.tree.proofs.Arrivals.{leaf-named, leaf-in}
 
 -- ---- a leaf that was seen
@@ -35,20 +35,20 @@ module _ {f : Frame} {words keys : List ℕ} (w : FrameOf f words keys) {ref : �
     pub seen-room : start + 6 ≤ length words
     seen-room = leaf-in w (placeAt ref) (ref / 8) start (leaf-named ref (l .kind)) s (seen-pool l) .0
 
-    pub seen-length : (n : ℕ) → n ≡ getD words (start + 1) 0 → (n ≡ tagLen f words ref) × (n ≤ f .form .limit)
+    pub seen-length : (n : ℕ) → n ≡ getD words (start + 1) 0 → (n ≡ lengthAt f words ref) × (n ≤ f .form .limit)
     seen-length n e =
         let q : start ≡ startAt f (leaf-place (ref / 8)) = s ∙ ap (startAt f) (leaf-named ref (l .kind)) in
         let a = startAt f (leaf-place (ref / 8)) in
-        let t : n ≡ tagLen f words ref =
+        let t : n ≡ lengthAt f words ref =
         e ∙ ap (λ (b : ℕ). getD words (b + 1) 0) q ∙ sym (between-at words a (a + 6) 1 (omega arith)) in
         (t, omega (arith, leaf-rule (f .form .limit) (recordAt f words (leaf-place (ref / 8))) (keyAt f keys (ref / 8)) (l .rule) .short))
 
-pub seen-tag : (f : Frame) (words keys : List ℕ) (ref n : ℕ) → n ≡ tagLen f words ref → n ≤ f .form .limit
+pub seen-tag : (f : Frame) (words keys : List ℕ) (ref n : ℕ) → n ≡ lengthAt f words ref → n ≤ f .form .limit
     → between keys (ref / 8 * f .form .limit) (ref / 8 * f .form .limit + n) ≡ tagAt f words keys ref
 unfolding tagAt
 seen-tag f words keys ref n e h =
     let a = ref / 8 * f .form .limit in
-    let q : a + n - a ≡ tagLen f words ref = omega arith in
+    let q : a + n - a ≡ lengthAt f words ref = omega arith in
     sym (between-front keys a (a + n) (a + f .form .limit) (omega arith)) ∙ ap (λ (k : ℕ). take k (keyAt f keys (ref / 8))) q
 
 -- ---- two tags

@@ -5,7 +5,7 @@ use mathlib.Core.Bool.{Bool, true, false, _&&_}
 use lib.ListN.{length, drop, replicate}
 use lib.Dec.{eqb, ltb}
 use Rattle.lists.specs.Scan.{choose}
-use Rattle.frames.specs.Frame.{trailerOf, frameFits, frameOf, rootWord, firstWord, lastWord, countWord}
+use Rattle.frames.specs.Frame.{frameFits, frame, rootWord, firstWord, lastWord, countWord}
 use Rattle.frames.specs.declared.frame.Frame.{Frame}
 use Rattle.whole.specs.Marks.{placesIn}
 use Rattle.whole.specs.Visit.{Way, way, recordBy}
@@ -37,8 +37,9 @@ wayWell f words keys w = endedWell words (w .visit) && swept f words keys (w .ma
 unfoldable pub wholeBy : Frame → List ℕ → List ℕ → Bool
 wholeBy f words keys = wayWell f words keys (rootWay f words keys (replicate (placesIn f) 0))
 
+-- in the frame that the trailer gives, where that fits
 unfoldable pub wholeOf : List ℕ → List ℕ → Bool
-wholeOf words keys = choose (frameFits words keys) (wholeBy (frameOf (trailerOf words)) words keys) false
+wholeOf words keys = choose (frameFits words keys) (wholeBy (frame words) words keys) false
 
 -- ── the call ──
 pub record Answer : Type 0 where
@@ -58,10 +59,11 @@ numberOf ShortScratch = 7
 abbrev pub cleared : ℕ → List ℕ → List ℕ
 cleared n scratch = replicate n 0 ++ drop n scratch
 
+-- 7 where scratch is shorter than a byte for each place
 abbrev pub checkWith : Frame → List ℕ → List ℕ → List ℕ → Answer
 checkWith f words keys scratch =
     choose (ltb (length scratch) (placesIn f)) (answer ShortScratch scratch) (answer (choose (wholeBy f words keys) Sound Damaged) (cleared (placesIn f) scratch))
 
 -- frame 6, 7, whole check 6
 unfoldable pub checkOf : List ℕ → List ℕ → List ℕ → Answer
-checkOf words keys scratch = choose (frameFits words keys) (checkWith (frameOf (trailerOf words)) words keys scratch) (answer Damaged scratch)
+checkOf words keys scratch = choose (frameFits words keys) (checkWith (frame words) words keys scratch) (answer Damaged scratch)

@@ -1,4 +1,4 @@
--- A sound block, as the paper says it.
+-- What a sound block is.
 use Prim.Native.Nat.{ℕ}
 use mathlib.Core.Path.{_≡_}
 use mathlib.Core.List.{List, []}
@@ -6,9 +6,8 @@ use mathlib.Core.Option.{Option, none, some}
 use mathlib.Core.Bool.{true}
 use lib.ListN.{length, getD}
 use Rattle.lists.specs.Scan.{choose}
-use Rattle.frames.specs.Frame.{trailerOf, frameFits, frameOf, rootWord, firstWord, lastWord, countWord}
+use Rattle.frames.specs.Frame.{frameFits, frame, rootWord, firstWord, lastWord, countWord}
 use Rattle.frames.specs.Place.{refOf, inPool, recordAt}
-use Rattle.frames.specs.declared.frame.Frame.{Frame}
 use Rattle.records.specs.View.{Held, cellOf, ruleAt, blankAt}
 use Rattle.art.specs.Trees.{Tree}
 use Rattle.art.specs.Deletes.{held, Sane}
@@ -18,21 +17,19 @@ use Rattle.art.specs.Points.{store-of}
 use Rattle.art.specs.Calls.{OnceOf}
 use Rattle.view.specs.Links.{linksOf}
 
--- the frame that the trailer gives
-abbrev pub frame : List ℕ → Frame
-frame words = frameOf (trailerOf words)
-
 -- the reference to the root of a tree, or 0 where there is none
 abbrev pub Rooted : ℕ → Option (Tree Held) → Type 0
 Rooted ref none = ref ≡ 0
 Rooted ref (some t) = ref ≡ refOf (root t)
 
+-- sentence by sentence
 pub record Sound (words keys : List ℕ) : Type 0 where
   -- the frame fits
   pub fits : frameFits words keys ≡ true
   -- every used record obeys its rule
   pub rules : (x : Place) → Used (cellOf (frame words) words keys x) → ruleAt (frame words) words keys x ≡ true
-  -- and is reached once from the root, with no used one unreached; every tag below agrees with every prefix byte and each child byte
+  -- and is reached once from the root: the cells are the store of one tree, in which no place stands twice. There a branching has its whole run and a leaf only the
+  -- rest of its tag, so every tag below has every byte of each run, stored or not, and each child byte
   pub tree : Option (Tree Held)
   pub good : Sane tree
   pub rooted : Rooted (rootWord words) tree

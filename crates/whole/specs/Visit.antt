@@ -73,15 +73,15 @@ childEnd f words keys e byte w (Well t s) = choose (goesOn e (tagAt f words keys
 childEnd f words keys e byte w Ill = Ill
 
 -- on to the next, where all is well
-abbrev pub onward : Visit → List ℕ → (ℕ → List ℕ → Seen → Way) → Way
-onward (Well w s) m go = go w m s
-onward Ill m go = way Ill m
+abbrev pub wayOn : Visit → List ℕ → (ℕ → List ℕ → Seen → Way) → Way
+wayOn (Well w s) m go = go w m s
+wayOn Ill m go = way Ill m
 
 -- the children of a row that branches at depth e, each checked by g, with the row's witness so far
 unfoldable pub rowBy : Frame → List ℕ → List ℕ → (ℕ → ℕ → List ℕ → Seen → Way) → ℕ → ℕ → List (ℕ × ℕ) → List ℕ → Seen → Way
 rowBy f words keys g e w [] m s = way (rowEnd w s) m
 rowBy f words keys g e w (c ∷ cs) m s =
-    onward (childEnd f words keys e (c .0) w (g (c .1) (e + 1) m s .visit)) (g (c .1) (e + 1) m s .marks) (λ x m′ s′. rowBy f words keys g e x cs m′ s′)
+    wayOn (childEnd f words keys e (c .0) w (g (c .1) (e + 1) m s .visit)) (g (c .1) (e + 1) m s .marks) (λ x m′ s′. rowBy f words keys g e x cs m′ s′)
 
 -- the children at or after a byte
 abbrev pub rowFrom : ℕ → List (ℕ × ℕ) → List (ℕ × ℕ)

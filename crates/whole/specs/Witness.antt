@@ -23,12 +23,12 @@ pub record LeafSeen (f : Frame) (words keys : List ℕ) (ref : ℕ) : Type 0 whe
 pub record WitnessSeen (f : Frame) (words keys : List ℕ) (ref : ℕ) : Type 0 where
   pub seen : (ref ≡ 0 → ⊥) → LeafSeen f words keys ref
 
--- the leaf's tag
-abbrev pub tagLen : Frame → List ℕ → ℕ → ℕ
-tagLen f words ref = getD (recordAt f words (leaf-place (ref / 8))) 1 0
+-- the length of the leaf's tag, and the tag
+abbrev pub lengthAt : Frame → List ℕ → ℕ → ℕ
+lengthAt f words ref = getD (recordAt f words (leaf-place (ref / 8))) 1 0
 
 unfoldable pub tagAt : Frame → List ℕ → List ℕ → ℕ → List ℕ
-tagAt f words keys ref = take (tagLen f words ref) (keyAt f keys (ref / 8))
+tagAt f words keys ref = take (lengthAt f words ref) (keyAt f keys (ref / 8))
 
 -- the tag t has the first e bytes of w, then the byte
 unfoldable pub goesOn : ℕ → List ℕ → ℕ → List ℕ → Bool

@@ -6,7 +6,7 @@ ghost use Rattle.frames.specs.Frame.{FrameOf};
 ghost use Rattle.records.specs.Own.{prefixAt};
 ghost use Rattle.tree.specs.Arrive.{InnerThere};
 ghost use Rattle.whole.specs.Arrive.{innerRec};
-ghost use Rattle.whole.specs.Witness.{LeafSeen, tagAt, tagLen, goesOn, storedAgrees};
+ghost use Rattle.whole.specs.Witness.{LeafSeen, tagAt, lengthAt, goesOn, storedAgrees};
 use frames::form;
 use frames::frame;
 use frames::frame::Frame;
@@ -17,7 +17,7 @@ use records::header;
 // How many bytes a leaf's tag has.
 fn tag_len(words: &[u32], keys: &[u8], f: Frame, leaf: u32) -> usize
     requires { ⌜ FrameOf f (now words) (now keys) × LeafSeen f (now words) (now keys) leaf ⌝ }
-    ensures { λ r. ⌜ (r ≡ tagLen f (now (words .entry)) leaf) × (r ≤ f .form .limit) ⌝ }
+    ensures { λ r. ⌜ (r ≡ lengthAt f (now (words .entry)) leaf) × (r ≤ f .form .limit) ⌝ }
 {
     let start = frame::start_at(f, leaf);
     frame::num(words, start + 1)

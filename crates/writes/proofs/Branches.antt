@@ -18,7 +18,8 @@ use Rattle.records.specs.Row.{filled, directRow, refFor}
 use Rattle.records.proofs.Owns.{inner-rule}
 use Rattle.edits.specs.Record.{spreadOf}
 use Rattle.edits.specs.Rows.{Row, rowInsert, rowPair, rowRemove}
-use Rattle.edits.proofs.Inners.{Inner, inner-size, inner-climbs, inner-child, spread-of}
+use Rattle.edits.specs.Inner.{Inner}
+use Rattle.edits.proofs.Inners.{inner-size, inner-climbs, inner-child, spread-of}
 use Rattle.edits.proofs.RowChanges.{pair-climbs, table-insert}
 use Rattle.edits.proofs.Shown.{Direct, holds-laid, holds-child}
 use Rattle.edits.proofs.TableBodies.{direct-shown, direct-remove}

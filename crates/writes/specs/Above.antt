@@ -8,6 +8,7 @@ use Rattle.points.specs.declared.insert_point.Up.{Up}
 use Rattle.points.specs.declared.insert_point.Up.the-variants.{Top, Via}
 use Rattle.writes.specs.At.{replaceAt}
 
+-- the record above, or the trailer, names another record
 abbrev pub linkUp : Frame → Up → ℕ → List ℕ → List ℕ
 linkUp f Top ref words = setTrailer 11 ref words
 linkUp f (Via above byte) ref words = replaceAt f (placeAt above) byte ref words

@@ -5,7 +5,8 @@ use lib.ListN.{length, replicate}
 use Rattle.frames.specs.Place.{recordAt, putAt, putKey}
 use Rattle.frames.specs.declared.frame.Frame.{Frame}
 use Rattle.art.specs.Stores.{leaf-place}
-use Rattle.pools.specs.Leaf.{leafWords, keyBytes, setTotal}
+use Rattle.lists.specs.Edit.{padded}
+use Rattle.pools.specs.Leaf.{leafWords, setTotal}
 use Rattle.pools.specs.Link.{setNext, setPrevious}
 use Rattle.art.specs.Chain.{leaf-ref}
 
@@ -16,7 +17,7 @@ leafIn f n len previous next total words =
 
 -- its key bytes
 unfoldable pub keyIn : Frame → ℕ → List ℕ → List ℕ → List ℕ
-keyIn f n tag keys = putKey f keys n (keyBytes (f .form .limit) tag)
+keyIn f n tag keys = putKey f keys n (padded (f .form .limit) tag)
 
 -- leaf n taken out from between its neighbours, and cleared
 unfoldable pub leafOut : Frame → (n previous next : ℕ) → List ℕ → List ℕ

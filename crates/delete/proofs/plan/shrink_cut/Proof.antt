@@ -2,8 +2,7 @@
 use Prim.Native.Nat.{_-_, _%_}
 use mathlib.Core.Path.{ap, _∙_}
 use native.Mathlib.Omega.{arith}
-use Rattle.frames.proofs.Frames.{framed}
-use Rattle.pools.proofs.Lowest.{caps-most}
+use Rattle.frames.proofs.Frames.{framed, caps-most}
 use Rattle.delete.specs.declared.plan.Cut.the-variants.{Shrink}
 use Rattle.delete.proofs.Planning.{shrink-free, shrink-none}
 use borrow.Author.Needs.{needs}

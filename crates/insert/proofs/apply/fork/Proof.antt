@@ -32,7 +32,7 @@ prefix-of-requires c κs =
     let a = s .args in
     let r = s .pre .1 .0 in
     let n = between-length (a .tag .now) (a .d) (a .d + a .c) (omega arith) (omega (arith, r .inside)) in
-    omega (arith, n, r .inside-leaf, tag-short (s .pre .0) (a .seen) (r .seen), limit-small (s .pre .0))
+    omega (arith, n, r .inside-leaf, tag-short (s .pre .0) (a .witness) (r .seen), limit-small (s .pre .0))
 
 cut-at-requires : tie.Need-cut-at-requires
 cut-at-requires c κs =
@@ -70,7 +70,7 @@ link-up-requires c κs =
     let k = b7 .cut-at in
     let b = b3 .branch-at in
     let w2 = branch-kept (k .ensures .1) (b .last .0) (b .kept .0) (placeAt (a .new)) (r .to .pool) (p .result) (getD (a .tag .now) (a .d + a .c) 0) (a .leaf) (getD (t .result .now) (a .d + a .c) 0) (a .below) (b .ensures) in
-    let made = forked-by (a .f) (a .words .now) (a .below) (a .new) (a .tag .now) (tagAt (a .f) (a .words .now) (a .keys .now) (a .seen)) (t .result .now) (a .d) (a .c) (a .leaf) (p .result) (k .last .0) (b .last .0) (p .ensures) (t .ensures) (k .ensures .0) (b .ensures) in
+    let made = forked-by (a .f) (a .words .now) (a .below) (a .new) (a .tag .now) (tagAt (a .f) (a .words .now) (a .keys .now) (a .witness)) (t .result .now) (a .d) (a .c) (a .leaf) (p .result) (k .last .0) (b .last .0) (p .ensures) (t .ensures) (k .ensures .0) (b .ensures) in
     (w2, subst (λ l. UpThere (a .f) l (a .up)) (sym made) (r .above))
 
 returns : tie.Need-returns
@@ -88,7 +88,7 @@ returns c =
     let k = b10 .cut-at in
     let b = b6 .branch-at in
     let w2 = branch-kept (k .ensures .1) (b .last .0) (b .kept .0) (placeAt (a .new)) (r .to .pool) (p .result) (getD (a .tag .now) (a .d + a .c) 0) (a .leaf) (getD (t .result .now) (a .d + a .c) 0) (a .below) (b .ensures) in
-    let made = forked-by (a .f) (a .words .now) (a .below) (a .new) (a .tag .now) (tagAt (a .f) (a .words .now) (a .keys .now) (a .seen)) (t .result .now) (a .d) (a .c) (a .leaf) (p .result) (k .last .0) (b .last .0) (p .ensures) (t .ensures) (k .ensures .0) (b .ensures) in
+    let made = forked-by (a .f) (a .words .now) (a .below) (a .new) (a .tag .now) (tagAt (a .f) (a .words .now) (a .keys .now) (a .witness)) (t .result .now) (a .d) (a .c) (a .leaf) (p .result) (k .last .0) (b .last .0) (p .ensures) (t .ensures) (k .ensures .0) (b .ensures) in
     let up = b2 .link-up in
     (up .ensures ∙ ap (linkUp (a .f) (a .up) (a .new)) made, linked-kept w2 (up .last .0) (up .kept .0) (a .up) (subst (λ l. UpThere (a .f) l (a .up)) (sym made) (r .above)) (a .new) (up .ensures))
 

@@ -4,9 +4,8 @@ use mathlib.Core.Path.{ap, _∙_}
 use native.Mathlib.Omega.{arith}
 use lib.ListN.{getD}
 use Rattle.frames.specs.Place.{inPool, recordAt, sizeAt}
-use Rattle.frames.proofs.Frames.{framed}
+use Rattle.frames.proofs.Frames.{framed, caps-most}
 use Rattle.frames.proofs.Places.{place-leaf}
-use Rattle.pools.proofs.Lowest.{caps-most}
 use borrow.Author.Tests.{ltb-true}
 use Rattle.writes.specs.declared.leaf_node.Gap.{Gap}
 use Rattle.insert.proofs.plan.gap_at.Statement.{statement}

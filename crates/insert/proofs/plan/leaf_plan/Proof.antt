@@ -1,7 +1,6 @@
 -- `leaf_plan` meets its contract: by whether a leaf is free.
 use native.Mathlib.Omega.{arith}
-use Rattle.frames.proofs.Frames.{framed}
-use Rattle.pools.proofs.Lowest.{caps-most}
+use Rattle.frames.proofs.Frames.{framed, caps-most}
 use Rattle.insert.proofs.Planning.{leaf-free, leaf-none}
 use borrow.Author.Needs.{needs}
 use Rattle.insert.proofs.plan.leaf_plan.Statement.{statement}

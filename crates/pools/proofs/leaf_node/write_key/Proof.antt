@@ -6,13 +6,12 @@ use lib.ListN.{length, replicate}
 use borrow.Author.Needs.{needs}
 use Rattle.lists.specs.Part.{splice}
 use Rattle.lists.proofs.Parts.{between-length}
-use Rattle.pools.specs.Leaf.{keyBytes}
 use Rattle.lists.proofs.Pieces.{both-halves}
 use Rattle.pools.proofs.leaf_node.write_key.Statement.{statement}
 use Rattle.pools.proofs.leaf_node.write_key.Tie as tie
 
 returns : tie.Need-returns
-unfolding keyBytes splice
+unfolding splice
 returns c =
     let b2 = c .before .before in
     let b6 = b2 .before .before .before .before in

@@ -3,7 +3,7 @@ use native.Mathlib.Omega.{arith}
 use borrow.Author.Tests.{eq-eqb, ne-eqb}
 use borrow.Author.Needs.{needs}
 use Rattle.frames.proofs.Frames.{framed, totals}
-use Rattle.pools.specs.Link.{setPrevious}
+use Rattle.pools.specs.Link.{setLink, setPrevious}
 use Rattle.pools.proofs.LeafEnds.{leaf-in, leaf-ends}
 use Rattle.pools.proofs.links.set_previous.Statement.{statement}
 use Rattle.pools.proofs.links.set_previous.Tie as tie
@@ -12,7 +12,7 @@ set-trailer-requires : tie.Need-set-trailer-requires
 set-trailer-requires c κs = (totals _ _ (c .before .before .before .before .pre .0 .fits) .long, omega arith)
 
 returns : tie.Need-returns
-unfolding setPrevious
+unfolding setPrevious setLink
 returns c = simp (eq-eqb _ _ (c .before .before .before .before .if1 .taken)) (c .before .before .set-trailer .ensures)
 
 start-at-requires : tie.Need-start-at-requires
@@ -36,7 +36,7 @@ slice-write-words c =
     omega (arith, c .start-at .ensures, leaf-ends (b4 .pre .0) (b4 .args .after) (c .before .if1 .left) (b4 .pre .1))
 
 returns-2 : tie.Need-returns-2
-unfolding setPrevious
+unfolding setPrevious setLink
 returns-2 c = simp (ne-eqb _ _ (c .before .if1 .left), c .start-at .ensures)
 
 pub set-previous-spec : {M : Type 1} → statement M

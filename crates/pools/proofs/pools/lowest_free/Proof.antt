@@ -2,9 +2,9 @@
 use Prim.Native.Nat.{_-_}
 use native.Mathlib.Omega.{arith}
 use borrow.Author.Needs.{needs}
-use Rattle.frames.proofs.Frames.{framed, framed-room, frame-room}
+use Rattle.frames.proofs.Frames.{framed, framed-room, frame-room, caps-most}
 use Rattle.pools.specs.Pool.{lowestFree}
-use Rattle.pools.proofs.Lowest.{Lowest, lowest-start, lowest-on, lowest-at, lowest-end, caps-most}
+use Rattle.pools.proofs.Lowest.{Lowest, lowest-start, lowest-on, lowest-at, lowest-end}
 use Rattle.pools.proofs.pools.lowest_free.Statement.{statement}
 use Rattle.pools.proofs.pools.lowest_free.Tie as tie
 

@@ -1,4 +1,4 @@
--- `header::stored_of` meets its contract: eight words, each read where it stands or 0.
+-- `header::stored_of` meets its contract: both ways read the eight words after the count below.
 use Rattle.frames.specs.Form.{storedOf}
 use borrow.Author.Needs.{needs}
 use Rattle.records.proofs.header.stored_of.Statement.{statement}
@@ -6,14 +6,11 @@ use Rattle.records.proofs.header.stored_of.Tie as tie
 
 returns : tie.Need-returns
 unfolding storedOf
-returns c =
-    let b2 = c .before .before in
-    let b3 = b2 .before in
-    let b4 = b3 .before in
-    let b5 = b4 .before in
-    let b6 = b5 .before in
-    let b7 = b6 .before in
-    rw (b7 .word .ensures, b6 .word2 .ensures, b5 .word3 .ensures, b4 .word4 .ensures, b3 .word5 .ensures, b2 .word6 .ensures, c .before .word7 .ensures, c .word8 .ensures)
+returns c = c .eight .ensures
+
+returns-2 : tie.Need-returns-2
+unfolding storedOf
+returns-2 c = c .eight-or-none .ensures
 
 pub stored-of-spec : {M : Type 1} → statement M
 stored-of-spec =
@@ -21,19 +18,8 @@ stored-of-spec =
     (tie.spec
     (λ c. search needs)
     (λ c. search needs)
-    (λ c κs. search needs)
     (λ c. search needs)
     (λ c κs. search needs)
-    (λ c. search needs)
+    returns
     (λ c κs. search needs)
-    (λ c. search needs)
-    (λ c κs. search needs)
-    (λ c. search needs)
-    (λ c κs. search needs)
-    (λ c. search needs)
-    (λ c κs. search needs)
-    (λ c. search needs)
-    (λ c κs. search needs)
-    (λ c. search needs)
-    (λ c κs. search needs)
-    returns)
+    returns-2)

@@ -1,7 +1,9 @@
 -- `minmax::edge_walk` meets its contract: at each turn the way down from here ends where the way down from the root does.
 use mathlib.Core.Path.{refl, sym, ap, _∙_}
+use native.Mathlib.Omega.{arith}
+use Rattle.frames.proofs.Frames.{limit-small}
 use Rattle.tree.specs.Edge.{edgeEnded}
-use Rattle.tree.proofs.Edges.{Descending, edge-next, edge-end, edge-over}
+use Rattle.tree.proofs.Edges.{Descending, edge-end, edges-first, edges-on, edges-next, edges-over}
 use borrow.Author.Needs.{needs}
 use Rattle.tree.proofs.minmax.edge_walk.Statement.{statement}
 use Rattle.tree.proofs.minmax.edge_walk.Tie as tie
@@ -12,31 +14,33 @@ Inv-loop words keys f edge root left₀ reference₀ left reference = Descending
 abbrev μ-loop : tie.MeasureT-loop
 μ-loop words keys f edge root left₀ reference₀ left reference = left
 
+add-left : tie.Need-add-left Inv-loop μ-loop
+add-left c = omega (arith, limit-small (c .before .before .before .pre))
+
 loop-holds : tie.Need-loop-holds Inv-loop μ-loop
-loop-holds c = record { same-answer = refl }
+loop-holds c = record { same-answer = edges-first _ _ _ _ _ _ }
 
 edge-step-requires : tie.Need-edge-step-requires Inv-loop μ-loop
-edge-step-requires c κs = c .before .before .before .before .pre
+edge-step-requires c κs = c .before .before .before .before .before .pre
 
 returns : tie.Need-returns Inv-loop μ-loop
 returns c =
     let t = c .before .before .before in
+    let l = t .before .before .loop in
     let e = c .before .enum-told .given .1 in
-    c .edge-ended .ensures ∙ ap edgeEnded e ∙ sym (t .before .before .loop .inv .same-answer ∙ edge-end _ _ _ _ _ _ _ (sym (t .edge-step .ensures) ∙ e))
+    c .edge-ended .ensures
+    ∙ ap edgeEnded e
+    ∙ sym (l .inv .same-answer ∙ edges-on _ _ _ _ _ _ (t .before .loop-test .taken) ∙ edge-end _ _ _ _ _ _ _ (sym (t .edge-step .ensures) ∙ e))
 
 loop-again : tie.Need-loop-again Inv-loop μ-loop
 loop-again c =
     let t = c .before .before .before in
+    let l = t .before .before .loop in
     let e = sym (t .edge-step .ensures) ∙ c .before .s .given .1 in
-    record { same-answer = t .before .before .loop .inv .same-answer ∙ edge-next _ _ _ _ _ _ _ (t .before .loop-test .taken) e }
-
-edge-step-requires-2 : tie.Need-edge-step-requires-2 Inv-loop μ-loop
-edge-step-requires-2 c κs = c .before .before .before .before .pre
+    record { same-answer = l .inv .same-answer ∙ edges-on _ _ _ _ _ _ (t .before .loop-test .taken) ∙ edges-next _ _ _ _ _ _ _ e }
 
 returns-2 : tie.Need-returns-2 Inv-loop μ-loop
-returns-2 c =
-    let l = c .before .before in
-    c .edge-ended2 .ensures ∙ ap edgeEnded (c .before .edge-step2 .ensures) ∙ sym (l .before .loop .inv .same-answer ∙ edge-over _ _ _ _ _ _ (l .loop-test .left))
+returns-2 c = edges-over _ _ _ _ _ _ (c .loop-test .left) ∙ sym (c .before .loop .inv .same-answer)
 
 pub edge-walk-spec : {M : Type 1} → statement M
 edge-walk-spec =
@@ -44,15 +48,14 @@ edge-walk-spec =
     (tie.spec
     Inv-loop
     μ-loop
+    add-left
     loop-holds
+    (λ c. search needs)
     edge-step-requires
     (λ c. search needs)
     (λ c. search needs)
     (λ c κs. search needs)
     returns
     (λ c. search needs)
-    (λ c. search needs)
     loop-again
-    edge-step-requires-2
-    (λ c κs. search needs)
     returns-2)

@@ -2,7 +2,7 @@
 use mathlib.Core.Path.{ap, _∙_}
 use native.Mathlib.Omega.{arith}
 use Rattle.lists.specs.Part.{splice}
-use Rattle.pools.specs.Leaf.{keyBytes}
+use Rattle.lists.specs.Edit.{padded}
 use Rattle.writes.specs.Leaf.{keyIn}
 use Rattle.writes.proofs.Spots.{key-long, key-put}
 use borrow.Author.Needs.{needs}
@@ -22,7 +22,7 @@ returns c =
     let b5 = b2 .before .before .before in
     let s = b5 .before .before .before .before .before in
     let start = b5 .key-start .ensures .0 in
-    key-put (s .pre .0) (s .args .n) (s .pre .1 .0) start (b2 .write-key .last .0) (keyBytes (s .args .f .form .limit) (s .args .tag .now)) (b2 .write-key .ensures ∙ ap (λ n. keyBytes n (s .args .tag .now)) (key-long (s .pre .0) (s .args .n) (s .pre .1 .0) start))
+    key-put (s .pre .0) (s .args .n) (s .pre .1 .0) start (b2 .write-key .last .0) (padded (s .args .f .form .limit) (s .args .tag .now)) (b2 .write-key .ensures ∙ ap (λ n. padded n (s .args .tag .now)) (key-long (s .pre .0) (s .args .n) (s .pre .1 .0) start))
 
 pub key-in-spec : {M : Type 1} → statement M
 key-in-spec =

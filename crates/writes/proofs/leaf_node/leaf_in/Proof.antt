@@ -5,7 +5,8 @@ use lib.ListN.{length}
 use Rattle.frames.specs.Place.{putAt}
 use Rattle.art.specs.Chain.{leaf-ref}
 use Rattle.art.specs.Stores.{leaf-place}
-use Rattle.pools.specs.Leaf.{leafWords, keyBytes}
+use Rattle.lists.specs.Edit.{padded}
+use Rattle.pools.specs.Leaf.{leafWords}
 use Rattle.pools.specs.Link.{setPrevious}
 use Rattle.view.proofs.Keys.{key-fits}
 use Rattle.view.proofs.Leaves.{bytes-long}
@@ -33,8 +34,7 @@ set-previous-requires c κs =
     let b4 = c .before .before .before .before in
     let s = b4 .before .before .before .before .before .before in
     let g = s .args .gap in
-    let ref = leaf-ref (s .args .n) in
-    (fits-words (next-fits (s .pre .0 .0) (g .previous) ref (s .pre .1 .0)) (b4 .set-next .ensures), s .pre .1 .1)
+    (fits-words (next-fits (s .pre .0 .0) (g .previous) _ (s .pre .1 .0)) (b4 .set-next .ensures), s .pre .1 .1)
 
 key-in-requires : tie.Need-key-in-requires
 key-in-requires c κs =
@@ -42,9 +42,8 @@ key-in-requires c κs =
     let b9 = b4 .before .before .before .before .before in
     let s = b9 .before .before .before .before .before .before in
     let g = s .args .gap in
-    let ref = leaf-ref (s .args .n) in
-    let w = fits-words (next-fits (s .pre .0 .0) (g .previous) ref (s .pre .1 .0)) (b9 .set-next .ensures) in
-    (fits-words (previous-fits w (g .next) ref (s .pre .1 .1)) (b4 .set-previous .ensures), s .pre .0 .1)
+    let w = fits-words (next-fits (s .pre .0 .0) (g .previous) _ (s .pre .1 .0)) (b9 .set-next .ensures) in
+    (fits-words (previous-fits w (g .next) _ (s .pre .1 .1)) (b4 .set-previous .ensures), s .pre .0 .1)
 
 cast-write-at : tie.Need-cast-write-at
 cast-write-at c =
@@ -59,12 +58,11 @@ write-at-requires c κs =
     let b14 = b9 .before .before .before .before .before in
     let s = b14 .before .before .before .before .before .before in
     let g = s .args .gap in
-    let ref = leaf-ref (s .args .n) in
     let limit = s .args .f .form .limit in
     let tag = s .args .tag .now in
-    let w = fits-words (next-fits (s .pre .0 .0) (g .previous) ref (s .pre .1 .0)) (b14 .set-next .ensures) in
-    let v = fits-words (previous-fits w (g .next) ref (s .pre .1 .1)) (b9 .set-previous .ensures) in
-    (fits-keys (key-fits v (s .args .n) (keyBytes limit tag) (s .pre .0 .1 .0) (bytes-long limit tag (s .pre .0 .1 .1))) (b4 .key-in .ensures), s .pre .0 .1 .0)
+    let w = fits-words (next-fits (s .pre .0 .0) (g .previous) _ (s .pre .1 .0)) (b14 .set-next .ensures) in
+    let v = fits-words (previous-fits w (g .next) _ (s .pre .1 .1)) (b9 .set-previous .ensures) in
+    (fits-keys (key-fits v (s .args .n) (padded limit tag) (s .pre .0 .1 .0) (bytes-long limit tag (s .pre .0 .1 .1))) (b4 .key-in .ensures), s .pre .0 .1 .0)
 
 returns : tie.Need-returns
 unfolding leafIn

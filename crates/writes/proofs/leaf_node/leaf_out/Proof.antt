@@ -17,7 +17,7 @@ set-previous-requires c κs =
     let b4 = c .before .before .before .before in
     let s = b4 .before .before .before .before .before in
     let g = s .args .gap in
-    (fits-words (next-fits (s .pre .0 .0) (g .previous) (g .next) (s .pre .1 .0)) (b4 .set-next .ensures), s .pre .1 .1)
+    (fits-words (next-fits (s .pre .0 .0) (g .previous) _ (s .pre .1 .0)) (b4 .set-next .ensures), s .pre .1 .1)
 
 key-out-requires : tie.Need-key-out-requires
 key-out-requires c κs =
@@ -25,8 +25,8 @@ key-out-requires c κs =
     let b9 = b4 .before .before .before .before .before in
     let s = b9 .before .before .before .before .before in
     let g = s .args .gap in
-    let w = fits-words (next-fits (s .pre .0 .0) (g .previous) (g .next) (s .pre .1 .0)) (b9 .set-next .ensures) in
-    (fits-words (previous-fits w (g .next) (g .previous) (s .pre .1 .1)) (b4 .set-previous .ensures), s .pre .0 .1)
+    let w = fits-words (next-fits (s .pre .0 .0) (g .previous) _ (s .pre .1 .0)) (b9 .set-next .ensures) in
+    (fits-words (previous-fits w (g .next) _ (s .pre .1 .1)) (b4 .set-previous .ensures), s .pre .0 .1)
 
 clear-at-requires : tie.Need-clear-at-requires
 unfolding keyOut
@@ -37,8 +37,8 @@ clear-at-requires c κs =
     let s = b14 .before .before .before .before .before in
     let g = s .args .gap in
     let limit = s .args .f .form .limit in
-    let w = fits-words (next-fits (s .pre .0 .0) (g .previous) (g .next) (s .pre .1 .0)) (b14 .set-next .ensures) in
-    let v = fits-words (previous-fits w (g .next) (g .previous) (s .pre .1 .1)) (b9 .set-previous .ensures) in
+    let w = fits-words (next-fits (s .pre .0 .0) (g .previous) _ (s .pre .1 .0)) (b14 .set-next .ensures) in
+    let v = fits-words (previous-fits w (g .next) _ (s .pre .1 .1)) (b9 .set-previous .ensures) in
     (fits-keys (key-fits v (s .args .n) (replicate limit 0) (s .pre .0 .1) (length-replicate limit 0)) (b4 .key-out .ensures), s .pre .0 .1)
 
 returns : tie.Need-returns

@@ -1,0 +1,102 @@
+-- Delete on sound blocks: each way for the record above the leaf, which undoes the insert of the same tag, and a tag that is not held.
+use mathlib.Core.Path.{_≡_, refl, ap, subst, _∙_}
+use mathlib.Core.Logic.{_≢_}
+use mathlib.Core.List.{[], _∷_}
+use mathlib.Core.Option.{none}
+use native.Mathlib.Omega.{arith}
+use lib.ListN.{replicate}
+use Rattle.records.specs.View.{Held}
+use Rattle.art.specs.Tags.{Listing}
+use Rattle.art.specs.Listings.{lookup}
+use Rattle.art.specs.Puts.{leave}
+use Rattle.art.specs.Deletes.{held}
+use Rattle.frames.specs.Frame.{frame}
+use Rattle.whole.proofs.Samples.{two-words, two-keys, two-sound}
+use Rattle.points.specs.declared.insert_point.Up.the-variants.{Top}
+use Rattle.delete.specs.Plan.{planOf}
+use Rattle.delete.specs.Apply.{TakeReady}
+use Rattle.delete.specs.Delete.{out}
+use Rattle.delete.specs.declared.plan.Cut.the-variants.{Root, Stay, Shrink, Merge}
+use Rattle.delete.specs.declared.plan.Plan.the-variants.{Missing, Broken}
+use Rattle.delete.specs.declared.answer.Deleted.the-variants as deleted
+use Rattle.delete.proofs.Ready.{delete-ready}
+use Rattle.delete.proofs.Sounds.{delete-sound}
+use Rattle.delete.specs.Meets.{Deletes}
+use Rattle.delete.proofs.Answers.{never-broken, missing-held, held-missing, call-answers}
+use Rattle.instances.specs.Opened.{opened}
+use Rattle.instances.specs.Blocks.{bare, spare, two, room, three, full, wide, long, parted, A, B, C, D, E, J1, J2, AX, entry, Holds, gap}
+use Rattle.instances.proofs.Sounds.{spare-sound, three-sound, wide-sound, parted-sound, spare-holds, two-holds, three-holds, wide-holds, parted-holds}
+
+-- ── a held tag, for each way with the record above: what the writes need is there, and they leave a sound block without the tag ──
+-- the last tag of all
+root-ready : TakeReady (frame (spare .words)) (spare .words) Root 0 (gap 0 0)
+unfolding opened
+root-ready = delete-ready spare-sound A refl Root 0 (gap 0 0) refl
+
+root-out : Holds bare []
+unfolding opened
+root-out =
+    let z = delete-sound spare-sound A refl Root 0 (gap 0 0) refl in
+    (z .0, z .1 ∙ ap (leave A) spare-holds)
+
+-- the record stays
+stay-ready : TakeReady (frame (three .words)) (three .words) (Stay 1 67) 2 (gap 13 0)
+unfolding opened
+stay-ready = delete-ready three-sound C refl (Stay 1 67) 2 (gap 13 0) refl
+
+stay-out : Holds room (entry A 0 7 ∷ entry B 1 8 ∷ [])
+unfolding opened
+stay-out =
+    let z = delete-sound three-sound C refl (Stay 1 67) 2 (gap 13 0) refl in
+    (z .0, z .1 ∙ ap (leave C) three-holds)
+
+-- it moves into the smaller kind
+shrink-ready : TakeReady (frame (wide .words)) (wide .words) (Shrink Top 2 1 69) 4 (gap 29 0)
+unfolding opened
+shrink-ready = delete-ready wide-sound E refl (Shrink Top 2 1 69) 4 (gap 29 0) refl
+
+shrink-out : Holds full (entry A 0 1 ∷ entry B 1 2 ∷ entry C 2 3 ∷ entry D 3 4 ∷ [])
+unfolding opened
+shrink-out =
+    let z = delete-sound wide-sound E refl (Shrink Top 2 1 69) 4 (gap 29 0) refl in
+    (z .0, z .1 ∙ ap (leave E) wide-holds)
+
+-- the one child left stands in its place
+merge-ready : TakeReady (frame (two .words)) (two .words) (Merge Top 1 5 65) 1 (gap 5 0)
+unfolding opened
+merge-ready = delete-ready two-sound B refl (Merge Top 1 5 65) 1 (gap 5 0) refl
+
+merge-out : Holds spare (entry A 0 7 ∷ [])
+unfolding opened
+merge-out =
+    let z = delete-sound two-sound B refl (Merge Top 1 5 65) 1 (gap 5 0) refl in
+    (z .0, z .1 ∙ ap (leave B) two-holds)
+
+-- or it takes over the run of the record above, with the byte to it
+join-ready : TakeReady (frame (parted .words)) (parted .words) (Merge Top 9 1 66) 2 (gap 13 0)
+unfolding opened
+join-ready = delete-ready parted-sound AX refl (Merge Top 9 1 66) 2 (gap 13 0) refl
+
+join-out : Holds long (entry J1 0 1 ∷ entry J2 1 2 ∷ [])
+unfolding opened
+join-out =
+    let z = delete-sound parted-sound AX refl (Merge Top 9 1 66) 2 (gap 13 0) refl in
+    (z .0, z .1 ∙ ap (leave AX) parted-holds)
+
+-- ── a tag that is not held ──
+not-held : lookup C (held (two-sound .tree)) ≡ none
+unfolding opened
+not-held = missing-held two-sound C refl refl
+
+not-planned : planOf (frame two-words) two-words two-keys C ≡ Missing
+not-planned = held-missing two-sound C refl not-held
+
+not-broken : planOf (frame two-words) two-words two-keys C ≢ Broken
+not-broken = never-broken two-sound C refl
+
+-- ── the whole call: B goes, with its total ──
+B-gone : Deletes B (replicate 3 0) (entry A 0 7 ∷ entry B 1 8 ∷ []) (out (deleted.Gone 8) (spare .words) (spare .keys) (replicate 3 0))
+unfolding opened
+B-gone =
+    subst (λ (l : Listing Held). Deletes B (replicate 3 0) l (out (deleted.Gone 8) (spare .words) (spare .keys) (replicate 3 0))) two-holds
+    (call-answers two-sound B refl (replicate 3 1) (omega arith))

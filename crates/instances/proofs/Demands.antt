@@ -1,0 +1,132 @@
+-- The demands on blocks that are written out: what each theorem asks is computed, and what it says of the block can be read off.
+use Prim.Native.Nat.{ℕ}
+use mathlib.Core.Path.{_≡_, refl, ap, subst, _∙_}
+use mathlib.Core.Logic.{_≢_}
+use mathlib.Core.List.{List, [], _∷_}
+use native.Mathlib.Omega.{arith}
+use lib.ListN.{replicate}
+use Rattle.records.specs.View.{Held}
+use Rattle.art.specs.Tags.{Listing}
+use Rattle.art.specs.Listings.{lookup}
+use Rattle.art.specs.Orders.{after}
+use Rattle.art.specs.Drawings.{one, branch, kid, done, draw}
+use Rattle.art.specs.Deletes.{held}
+use Rattle.tree.specs.Walk.{searchOf}
+use Rattle.tree.specs.declared.answer.Found.the-variants as found
+use Rattle.reading.specs.Answers.{Bytes}
+use Rattle.reading.specs.Calls.{Reads}
+use Rattle.whole.specs.Sound.{Sound}
+use Rattle.whole.proofs.Samples.{two-words, two-keys, two-sound}
+use Rattle.range.specs.Range.{afterOf, afterIs}
+use Rattle.range.specs.declared.After.the-variants as after-variants
+use Rattle.pointed.proofs.Points.{tag-bytes}
+use Rattle.insert.specs.declared.answer.Inserted.the-variants as inserted
+use Rattle.demands.specs.Calls as calls
+use Rattle.demands.specs.Calls.{Outcome, outcome, Promise, run}
+use Rattle.demands.specs.Histories.{Block, Turn, next, after-all, puts, totals, told}
+use Rattle.demands.specs.Drawn.{drawing}
+use Rattle.demands.specs.Accepts.{insert, delete, turn}
+use Rattle.demands.proofs.Reading.{sound-reads}
+use Rattle.demands.proofs.Outcomes.{one-outcome, promised}
+use Rattle.demands.proofs.Refusals.{refused-same, scratch-left}
+use Rattle.demands.specs.Frames.{FrameKept}
+use Rattle.demands.proofs.Frames.{frame-kept, frames-kept}
+use Rattle.demands.proofs.Numbers.{after-passed}
+use Rattle.demands.proofs.Steps.{step-sound}
+use Rattle.demands.proofs.Histories.{drawing-is}
+use Rattle.demands.proofs.Corollaries.{either-order, restored}
+use Rattle.instances.specs.Opened.{opened}
+use Rattle.instances.specs.Blocks.{bare, spare, two, room, three, lend, A, B, C, AB, entry}
+use Rattle.instances.proofs.Sounds.{bare-sound, spare-sound, room-sound, swapped-sound, two-holds, spare-holds, room-holds, two-passed}
+
+-- ── one outcome ──
+abbrev put : Outcome
+put = outcome (calls.inserted inserted.New) (three .words) (three .keys) (replicate 5 0)
+
+-- putting C in leaves these words, key bytes and scratch bytes
+put-promised : Promise (calls.insert C 9) (lend room 5) put
+unfolding opened
+put-promised = promised (calls.insert C 9) (lend room 5)
+
+-- and whatever else the promise allows is the same
+put-only : (o : Outcome) → Promise (calls.insert C 9) (lend room 5) o → o ≡ put
+put-only o p = one-outcome (calls.insert C 9) (lend room 5) o put p put-promised
+
+-- ── a refused call changes no byte ──
+-- both leaves are used: 4
+refused : (run (calls.insert C 9) (lend two 3) .slices .words ≡ two-words) × (run (calls.insert C 9) (lend two 3) .slices .keys ≡ two-keys)
+unfolding opened
+refused = refused-same (calls.insert C 9) (lend two 3) 4 refl (λ e. omega arith)
+
+-- ── scratch: five bytes for three records, and two ──
+cleared : run calls.check (lend two 5) .slices .scratch ≡ 0 ∷ 0 ∷ 0 ∷ 1 ∷ 1 ∷ []
+unfolding opened
+cleared = scratch-left calls.check (lend two 5)
+
+untouched : run calls.check (lend two 2) .slices .scratch ≡ 1 ∷ 1 ∷ []
+unfolding opened
+untouched = scratch-left calls.check (lend two 2)
+
+-- ── the frame ──
+room-bytes : Bytes (room .keys)
+room-bytes = tag-bytes (room .keys) refl
+
+put-framed : FrameKept (room .words) (room .keys) (three .words) (three .keys)
+unfolding opened
+put-framed = frame-kept (calls.insert C 9) tt (tag-bytes C refl) (lend room 5) room-bytes
+
+-- C in and out again, with a search between
+abbrev there-and-back : List Turn
+there-and-back = turn (insert C 9) (replicate 5 1) ∷ record { call = calls.search C; scratch = [] } ∷ turn (delete C) (replicate 5 1) ∷ []
+
+back-framed : FrameKept (room .words) (room .keys) (after-all room there-and-back .words) (after-all room there-and-back .keys)
+back-framed = let c : Bytes C = tag-bytes C refl in frames-kept room room-bytes there-and-back (tt, (tt, (tt, tt))) (c, (c, (c, tt)))
+
+-- ── as a sorted list ──
+two-reads : Reads two-words two-keys (entry A 0 7 ∷ entry B 1 8 ∷ [])
+two-reads = subst (Reads two-words two-keys) two-holds (sound-reads two-sound)
+
+-- B is found in leaf 1 with its total
+B-found : searchOf two-words two-keys B ≡ found.Leaf 1 8
+unfolding opened
+B-found = two-reads .search B (tag-bytes B refl)
+
+-- the first at or after AB is B
+AB-after : afterOf two-words two-keys (replicate 3 1) AB .result ≡ after-variants.Leaf 1 8
+unfolding opened
+AB-after = after-passed (lend two 3) AB two-passed ∙ ap (λ (l : Listing Held). afterIs (after AB l)) two-holds
+
+-- putting C in leaves a sound block with C
+put-sound : (s : Sound (three .words) (three .keys)) × (totals (held (s .tree)) ≡ (A, 7) ∷ (B, 8) ∷ (C, 9) ∷ [])
+unfolding opened
+put-sound =
+    let z = step-sound room room-sound room-bytes (turn (insert C 9) (replicate 5 1)) (tag-bytes C refl) in
+    (z .0, z .1 ∙ ap (λ (l : Listing Held). told (totals l) (puts C 9)) room-holds)
+
+-- ── in either order ──
+-- A and B put into a bare block, and B and A: other words, the same drawing
+orders : drawing (two-sound .tree) ≡ drawing (swapped-sound .tree)
+unfolding opened
+orders =
+    let s : List ℕ = replicate 3 1 in
+    either-order bare bare-sound (tag-bytes (bare .keys) refl) (insert A 7) (insert B 8) (tag-bytes A refl) (tag-bytes B refl) A≢B s s s s refl refl refl refl two-sound swapped-sound
+  where
+    A≢B : A ≢ B
+    A≢B e = let z : _≡_ {A = ℕ} 65 66 = cc in omega arith
+
+-- which is a fork with no run, A and B below it
+orders-draw : drawing (two-sound .tree) ≡ branch 0 [] (kid 65 (one A 7) (kid 66 (one B 8) done))
+unfolding opened
+orders-draw = drawing-is (two-sound .tree) (two-sound .good) ∙ ap (λ (l : Listing Held). draw (totals l)) two-holds
+
+-- ── undone ──
+abbrev undone : Block
+undone = next (next spare (turn (insert B 8) (replicate 3 1))) (turn (delete B) (replicate 3 1))
+
+-- B put in beside A and taken out: A alone is drawn
+undone-draws : (s : Sound (undone .words) (undone .keys)) → drawing (s .tree) ≡ one A 7
+unfolding opened
+undone-draws s =
+    restored spare spare-sound (tag-bytes (spare .keys) refl) B 8 (tag-bytes B refl) (ap (lookup B) spare-holds) (replicate 3 1) (replicate 3 1) refl refl s
+    ∙ drawing-is (spare-sound .tree) (spare-sound .good)
+    ∙ ap (λ (l : Listing Held). draw (totals l)) spare-holds

@@ -1,0 +1,54 @@
+-- A history: from a start calls are accepted and refused, which is computed; and the theorem on it says what the block is at its end.
+use Prim.Native.Nat.{ℕ}
+use mathlib.Core.Path.{_≡_, refl, subst}
+use mathlib.Core.List.{List, [], _∷_}
+use lib.ListN.{replicate}
+use Rattle.art.specs.Tags.{Listing}
+use Rattle.pools.specs.Start.{startOf}
+use Rattle.pools.specs.declared.start.Started.the-variants.{Done}
+use Rattle.reading.specs.Answers.{Bytes}
+use Rattle.pointed.proofs.Points.{tag-bytes}
+use Rattle.demands.specs.Calls.{Call, start, insert, delete}
+use Rattle.demands.specs.Histories.{Block, Turn, next, after-all, told-all, counted-all, AllBytes}
+use Rattle.demands.specs.Story.{Story}
+use Rattle.demands.proofs.Histories.{history}
+use Rattle.instances.specs.Opened.{opened}
+use Rattle.instances.specs.Blocks.{caps, A, B, C, AB}
+
+-- memory that was used before
+abbrev before : Block
+before = record { words = replicate 47 3; keys = replicate 128 9 }
+
+abbrev call : Call → Turn
+call c = record { call = c; scratch = replicate 3 1 }
+
+abbrev first : Block
+first = next before (call (start (caps 2)))
+
+-- B; A; A again, with another total; AB, which clashes; C, for which there is no leaf; B out again
+abbrev calls : List Turn
+calls = call (insert B 8) ∷ call (insert A 7) ∷ call (insert A 9) ∷ call (insert AB 1) ∷ call (insert C 2) ∷ call (delete B) ∷ []
+
+-- ── computed: the start is done, and the accepted calls define one tag with its total ──
+accepted : startOf (before .words) (before .keys) (caps 2) .answer ≡ Done
+unfolding opened
+accepted = refl
+
+defined : List Turn → Listing ℕ × ℕ
+unfolding opened
+defined ts = (told-all first [] ts, counted-all first 0 ts)
+
+one-left : defined calls ≡ ((A, 9) ∷ [], 1)
+unfolding defined
+one-left = refl
+
+-- ── the theorem on it ──
+bytes : AllBytes calls
+bytes =
+    let b : Bytes B = tag-bytes B refl in
+    let a : Bytes A = tag-bytes A refl in
+    (b, (a, (a, (tag-bytes AB refl, (tag-bytes C refl, (b, tt))))))
+
+story : Story (after-all first calls) ((A, 9) ∷ []) 1
+unfolding defined
+story = subst (λ (d : Listing ℕ × ℕ). Story (after-all first calls) (d .0) (d .1)) one-left (history before (caps 2) (replicate 3 1) accepted calls bytes)

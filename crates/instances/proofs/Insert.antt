@@ -1,0 +1,169 @@
+-- Insert on sound blocks: a tag at each kind of site, one that is held, and each refusal, with the block that is left.
+use Prim.Native.Nat.{ℕ}
+use mathlib.Core.Path.{_≡_, refl, ap, _∙_}
+use mathlib.Core.List.{List, [], _∷_}
+use mathlib.Core.Option.{some}
+use native.Mathlib.Omega.{arith}
+use lib.ListN.{replicate}
+use Rattle.art.specs.Tags.{Tag}
+use Rattle.art.specs.Puts.{put, alter}
+use Rattle.art.specs.Verdicts.{Verdict, known, clash, free, judge}
+use Rattle.art.specs.Points.{store-of}
+use Rattle.art.specs.Deletes.{held}
+use Rattle.reading.specs.Answers.{Bytes}
+use Rattle.frames.specs.Frame.{frame}
+use Rattle.whole.specs.Sound.{Sound}
+use Rattle.whole.proofs.Samples.{two-words, two-keys, two-sound}
+use Rattle.points.specs.declared.insert_point.Up.the-variants.{Top}
+use Rattle.writes.specs.Leaf.{totalAt}
+use Rattle.writes.specs.declared.leaf_node.Gap.{Gap}
+use Rattle.pointed.proofs.Points.{tag-bytes}
+use Rattle.insert.specs.Plan.{planOf}
+use Rattle.insert.specs.Apply.{NewReady}
+use Rattle.insert.specs.declared.plan.Site.{Site}
+use Rattle.insert.specs.declared.plan.Site.the-variants.{Root, Add, Grow, Fork}
+use Rattle.insert.specs.declared.plan.Plan.{Plan}
+use Rattle.insert.specs.declared.plan.Plan.the-variants.{Over, New, Clash, NoLeaf, NoRecord}
+use Rattle.insert.specs.declared.answer.Inserted.the-variants as inserted
+use Rattle.insert.specs.Insert.{out}
+use Rattle.insert.specs.Room.{LeavesFull, Lacking, Answers}
+use Rattle.insert.specs.Meets.{newTotal, Meets}
+use Rattle.insert.proofs.Ready.{insert-ready}
+use Rattle.insert.proofs.Sounds.{insert-sound}
+use Rattle.insert.proofs.Overs.{over-sound}
+use Rattle.insert.proofs.Refusals.{plan-answers, only-over, only-clash, only-full, only-lacking, only-new}
+use Rattle.insert.proofs.Inserts.{insert-meets}
+use Rattle.instances.specs.Opened.{opened}
+use Rattle.instances.specs.Blocks.{bare, spare, two, lone, room, three, full, wide, long, parted, A, B, C, D, E, AB, J1, J2, AX, holding, entry, Holds, gap}
+use Rattle.instances.proofs.Sounds.{bare-sound, spare-sound, lone-sound, room-sound, full-sound, long-sound, bare-holds, spare-holds, two-holds, lone-holds, room-holds, full-holds, long-holds}
+use Rattle.instances.proofs.Conditions.{two-full, lone-not-full, lone-lacks, room-not-full, room-not-lacks}
+
+-- ── a new tag at each kind of site: what its writes need is there, and they leave a sound block that holds it too ──
+-- the first tag of all
+root-ready : NewReady (frame (bare .words)) (bare .words) (bare .keys) A Root 0 (gap 0 0)
+unfolding opened
+root-ready = insert-ready bare-sound (tag-bytes A refl) (tag-bytes (bare .keys) refl) (omega arith) Root 0 (gap 0 0) refl
+
+root-put : Holds spare (entry A 0 7 ∷ [])
+unfolding opened
+root-put =
+    let z = insert-sound bare-sound A (tag-bytes A refl) (tag-bytes (bare .keys) refl) (omega arith) Root 0 (gap 0 0) 7 refl in
+    (z .0, z .1 ∙ ap (put A (holding 0 7)) bare-holds)
+
+-- a missing child in a record with room
+add-ready : NewReady (frame (room .words)) (room .words) (room .keys) C (Add 1 67) 2 (gap 13 0)
+unfolding opened
+add-ready = insert-ready room-sound (tag-bytes C refl) (tag-bytes (room .keys) refl) (omega arith) (Add 1 67) 2 (gap 13 0) refl
+
+add-put : Holds three (entry A 0 7 ∷ entry B 1 8 ∷ entry C 2 9 ∷ [])
+unfolding opened
+add-put =
+    let z = insert-sound room-sound C (tag-bytes C refl) (tag-bytes (room .keys) refl) (omega arith) (Add 1 67) 2 (gap 13 0) 9 refl in
+    (z .0, z .1 ∙ ap (put C (holding 2 9)) room-holds)
+
+-- a full record moves into the next kind
+grow-ready : NewReady (frame (full .words)) (full .words) (full .keys) E (Grow Top 1 2 69) 4 (gap 29 0)
+unfolding opened
+grow-ready = insert-ready full-sound (tag-bytes E refl) (tag-bytes (full .keys) refl) (omega arith) (Grow Top 1 2 69) 4 (gap 29 0) refl
+
+grow-put : Holds wide (entry A 0 1 ∷ entry B 1 2 ∷ entry C 2 3 ∷ entry D 3 4 ∷ entry E 4 5 ∷ [])
+unfolding opened
+grow-put =
+    let z = insert-sound full-sound E (tag-bytes E refl) (tag-bytes (full .keys) refl) (omega arith) (Grow Top 1 2 69) 4 (gap 29 0) 5 refl in
+    (z .0, z .1 ∙ ap (put E (holding 4 5)) full-holds)
+
+-- a branching against a leaf
+fork-ready : NewReady (frame (spare .words)) (spare .words) (spare .keys) B (Fork Top 5 1 5 0 0) 1 (gap 5 0)
+unfolding opened
+fork-ready = insert-ready spare-sound (tag-bytes B refl) (tag-bytes (spare .keys) refl) (omega arith) (Fork Top 5 1 5 0 0) 1 (gap 5 0) refl
+
+fork-put : Holds two (entry A 0 7 ∷ entry B 1 8 ∷ [])
+unfolding opened
+fork-put =
+    let z = insert-sound spare-sound B (tag-bytes B refl) (tag-bytes (spare .keys) refl) (omega arith) (Fork Top 5 1 5 0 0) 1 (gap 5 0) 8 refl in
+    (z .0, z .1 ∙ ap (put B (holding 1 8)) spare-holds)
+
+-- one inside a prefix of over eight bytes, whose rest is filled again from a leaf
+part-ready : NewReady (frame (long .words)) (long .words) (long .keys) AX (Fork Top 1 9 5 0 1) 2 (gap 13 0)
+unfolding opened
+part-ready = insert-ready long-sound (tag-bytes AX refl) (tag-bytes (long .keys) refl) (omega arith) (Fork Top 1 9 5 0 1) 2 (gap 13 0) refl
+
+part-put : Holds parted (entry J1 0 1 ∷ entry J2 1 2 ∷ entry AX 2 3 ∷ [])
+unfolding opened
+part-put =
+    let z = insert-sound long-sound AX (tag-bytes AX refl) (tag-bytes (long .keys) refl) (omega arith) (Fork Top 1 9 5 0 1) 2 (gap 13 0) 3 refl in
+    (z .0, z .1 ∙ ap (put AX (holding 2 3)) long-holds)
+
+-- ── a held tag: its total alone changes ──
+over-put : (s : Sound (totalAt (frame two-words) 0 5 two-words) two-keys) × (held (s .tree) ≡ entry A 0 5 ∷ entry B 1 8 ∷ [])
+unfolding opened
+over-put =
+    let z = over-sound two-sound A (tag-bytes A refl) 5 refl 5 in
+    (z .0, z .1 ∙ ap (alter (λ h. some (newTotal 5 h)) A) two-holds)
+
+-- ── which plan is due, by the verdict and the room ──
+-- on a sound block, with any tag
+module _ {words keys : List ℕ} (s : Sound words keys) (tag : Tag) (bytes : Bytes tag) where
+  abbrev verdict : Verdict
+  verdict = judge tag (held (s .tree))
+
+  abbrev leaves-full : Type 0
+  leaves-full = LeavesFull (frame words) (store-of (s .tree))
+
+  abbrev lacking : Type 0
+  lacking = Lacking (frame words) (s .tree) tag
+
+  abbrev plan : Plan
+  plan = planOf (frame words) words keys tag
+
+  answers : Answers verdict leaves-full lacking plan
+  answers = plan-answers s tag bytes
+
+  over-due : verdict ≡ known → (leaf : ℕ) × (plan ≡ Over leaf)
+  over-due = only-over verdict leaves-full lacking plan answers
+
+  clash-due : verdict ≡ clash → plan ≡ Clash
+  clash-due = only-clash verdict leaves-full lacking plan answers
+
+  full-due : verdict ≡ free → leaves-full → plan ≡ NoLeaf
+  full-due = only-full verdict leaves-full lacking plan answers
+
+  lacking-due : verdict ≡ free → ¬ leaves-full → lacking → plan ≡ NoRecord
+  lacking-due = only-lacking verdict leaves-full lacking plan answers
+
+  new-due : verdict ≡ free → ¬ leaves-full → ¬ lacking → (site : Site) × (n : ℕ) × (g : Gap) × (plan ≡ New site n g)
+  new-due = only-new verdict leaves-full lacking plan answers
+
+-- A is held, in the leaf that 5 refers to
+two-over : (leaf : ℕ) × (planOf (frame two-words) two-words two-keys A ≡ Over leaf)
+unfolding opened
+two-over = over-due two-sound A (tag-bytes A refl) (ap (judge A) two-holds)
+
+-- A begins AB
+two-clash : planOf (frame two-words) two-words two-keys AB ≡ Clash
+unfolding opened
+two-clash = clash-due two-sound AB (tag-bytes AB refl) (ap (judge AB) two-holds)
+
+-- C is free, and no leaf is
+two-no-leaf : planOf (frame two-words) two-words two-keys C ≡ NoLeaf
+unfolding opened
+two-no-leaf = full-due two-sound C (tag-bytes C refl) (ap (judge C) two-holds) two-full
+
+-- B needs a branching, and there is no record
+lone-no-record : planOf (frame (lone .words)) (lone .words) (lone .keys) B ≡ NoRecord
+unfolding opened
+lone-no-record = lacking-due lone-sound B (tag-bytes B refl) (ap (judge B) lone-holds) lone-not-full lone-lacks
+
+-- C has a leaf, and a record with room
+room-new : (site : Site) × (n : ℕ) × (g : Gap) × (planOf (frame (room .words)) (room .words) (room .keys) C ≡ New site n g)
+unfolding opened
+room-new = new-due room-sound C (tag-bytes C refl) (ap (judge C) room-holds) room-not-full room-not-lacks
+
+-- ── the whole call ──
+room-meets : Meets room-sound C 9 (out inserted.New (three .words) (three .keys) (replicate 5 0))
+unfolding opened
+room-meets = insert-meets room-sound (replicate 5 1) C 9 (tag-bytes C refl) (tag-bytes (room .keys) refl) (omega arith) (omega arith)
+
+two-meets : Meets two-sound AB 9 (out inserted.Clash two-words two-keys (replicate 3 0))
+unfolding opened
+two-meets = insert-meets two-sound (replicate 3 1) AB 9 (tag-bytes AB refl) (tag-bytes two-keys refl) (omega arith) (omega arith)

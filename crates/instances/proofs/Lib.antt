@@ -1,0 +1,18 @@
+pub mod Sounds
+pub mod Conditions
+pub mod Edits
+pub mod Numbers
+mod Rows
+mod Demands
+mod Histories
+mod Reading
+mod Whole
+mod States
+mod Points
+mod Insert
+mod Delete
+mod View
+mod Lists
+mod Prefix
+mod Frames
+mod Art

@@ -1,0 +1,75 @@
+-- Each number from 0 to 9 is given, and its row of the table holds where it is: `due-number` and `number-due` on one call for each.
+use mathlib.Core.Path.{refl, ap}
+use mathlib.Core.List.{List, [], _∷_}
+use native.Mathlib.Omega.{arith}
+use lib.ListN.{replicate}
+use Rattle.art.specs.Tags.{exact}
+use Rattle.art.specs.Listings.{find}
+use Rattle.art.specs.Verdicts.{judge}
+use Rattle.whole.proofs.Samples.{two-sound}
+use Rattle.pointed.proofs.Points.{tag-bytes}
+use Rattle.demands.specs.Calls.{start, search, leaf-facts, check, insert}
+use Rattle.demands.specs.Due as due
+use Rattle.demands.proofs.Numbers.{due-number, number-due}
+use Rattle.instances.specs.Opened.{opened}
+use Rattle.instances.specs.Blocks.{two, broken, lone, caps, lend, A, B, C, AB, holding}
+use Rattle.instances.specs.Lines.{Line, line, Dues, Given, Byted, AllSpoken, _then_}
+use Rattle.instances.proofs.Sounds.{two-holds, lone-holds, two-passed, lone-passed}
+use Rattle.instances.proofs.Conditions.{two-short, broken-unsound, two-full, lone-not-full, lone-lacks}
+
+-- ── the theorems, line by line ──
+pub dues-given : (ls : List Line) → Byted ls → Dues ls → Given ls
+dues-given [] b d = tt
+dues-given (l ∷ ls) b d = (due-number (b .0) (d .0), dues-given ls (b .1) (d .1))
+
+pub given-dues : (ls : List Line) → AllSpoken ls → Byted ls → Given ls → Dues ls
+given-dues [] s b g = tt
+given-dues (l ∷ ls) s b g = (number-due (l .call) (l .lent) (l .number) (s .0) (b .0) (g .0), given-dues ls (s .1) (b .1) (g .1))
+
+-- ── a line for each number ──
+abbrev table : List Line
+table =
+    line (search A) (lend two 0) 0
+    ∷ line (search C) (lend two 0) 1
+    ∷ line (insert (replicate 65 65) 1) (lend two 3) 2
+    ∷ line (insert AB 1) (lend two 3) 3
+    ∷ line (insert C 1) (lend two 3) 4
+    ∷ line (insert B 1) (lend lone 2) 5
+    ∷ line check (lend broken 3) 6
+    ∷ line check (lend two 2) 7
+    ∷ line (start (caps 3)) (lend two 0) 8
+    ∷ line (leaf-facts 2) (lend two 0) 9
+    ∷ []
+
+byted : Byted table
+byted = tag-bytes A refl then tag-bytes C refl then tag-bytes (replicate 65 65) refl then tag-bytes AB refl then tag-bytes C refl then tag-bytes B refl then tt then tt then tt then tt then tt
+
+spoken : AllSpoken table
+spoken = two-sound then two-sound then tt then tt then tt then tt then tt then tt then tt then tt then tt
+
+-- ── the numbers by computing, and so the rows ──
+computed : Given table
+unfolding opened
+computed = refl then refl then refl then refl then refl then refl then refl then refl then refl then refl then tt
+
+by-number : Dues table
+by-number = given-dues table spoken byted computed
+
+-- ── the rows by their conditions, and so the numbers ──
+dues : Dues table
+unfolding opened
+dues =
+    due.search-found two-sound (holding 0 7) (ap (find exact A) two-holds)
+    then due.search-missing two-sound (ap (find exact C) two-holds)
+    then due.insert-long {t = replicate 65 65} (omega arith)
+    then due.insert-clash {t = AB} (omega arith) two-passed (ap (judge AB) two-holds)
+    then due.insert-full {t = C} (omega arith) two-passed (ap (judge C) two-holds) two-full
+    then due.insert-lacking {t = B} (omega arith) lone-passed (ap (judge B) lone-holds) lone-not-full lone-lacks
+    then due.check-unsound broken-unsound
+    then due.check-short two-short
+    then due.start-refused refl
+    then due.facts-outside refl refl
+    then tt
+
+by-rows : Given table
+by-rows = dues-given table byted dues

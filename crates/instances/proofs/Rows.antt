@@ -1,0 +1,205 @@
+-- Every row of the table `Due` is met by a call on a small block, so that none of its conditions is idle; and the call gives the row's number.
+use mathlib.Core.Path.{refl, ap}
+use mathlib.Core.List.{List, [], _∷_}
+use native.Mathlib.Omega.{arith}
+use lib.ListN.{replicate}
+use Rattle.art.specs.Tags.{exact, begin}
+use Rattle.art.specs.Listings.{find, lookup}
+use Rattle.art.specs.Orders.{first-of, last-of, after}
+use Rattle.art.specs.Verdicts.{judge}
+use Rattle.whole.proofs.Samples.{two-sound}
+use Rattle.pointed.proofs.Points.{tag-bytes}
+use Rattle.reading.specs.Answers.{Bytes}
+use Rattle.demands.specs.Calls.{start, search, prefix-search, minimum, maximum, next-leaf, leaf-facts, check, first-at-or-after, insert, delete}
+use Rattle.demands.specs.Due as due
+use Rattle.demands.specs.Due.{InUse}
+use Rattle.instances.specs.Opened.{opened}
+use Rattle.instances.specs.Blocks.{nothing, bare, spare, two, broken, overlong, astray, lone, room, caps, lend, A, B, C, AB, holding}
+use Rattle.instances.specs.Lines.{Line, line, Dues, Given, _then_}
+use Rattle.instances.proofs.Sounds.{bare-sound, bare-holds, two-holds, lone-holds, room-holds, two-passed, lone-passed, room-passed}
+use Rattle.instances.proofs.Conditions.{none-unframed, two-short, broken-unsound, two-full, lone-not-full, lone-lacks, room-not-full, room-not-lacks}
+use Rattle.instances.proofs.Numbers.{dues-given}
+
+-- ── start, and the four searches ──
+abbrev starts : List Line
+starts = line (start (caps 3)) (lend two 0) 8 ∷ line (start (caps 2)) (lend two 0) 0 ∷ []
+
+starts-due : Dues starts
+unfolding opened
+starts-due = due.start-refused refl then due.start-done refl then tt
+
+abbrev searches : List Line
+searches =
+    line (search A) (lend nothing 0) 6
+    ∷ line (search C) (lend two 0) 1
+    ∷ line (search A) (lend two 0) 0
+    ∷ line (prefix-search AB) (lend nothing 0) 6
+    ∷ line (prefix-search C) (lend two 0) 1
+    ∷ line (prefix-search AB) (lend two 0) 0
+    ∷ line minimum (lend nothing 0) 6
+    ∷ line minimum (lend bare 0) 1
+    ∷ line minimum (lend two 0) 0
+    ∷ line maximum (lend nothing 0) 6
+    ∷ line maximum (lend bare 0) 1
+    ∷ line maximum (lend two 0) 0
+    ∷ []
+
+searches-due : Dues searches
+unfolding opened
+searches-due =
+    due.search-unframed none-unframed
+    then due.search-missing two-sound (ap (find exact C) two-holds)
+    then due.search-found two-sound (holding 0 7) (ap (find exact A) two-holds)
+    then due.prefix-unframed none-unframed
+    then due.prefix-missing two-sound (ap (find begin C) two-holds)
+    then due.prefix-found two-sound (holding 0 7) (ap (find begin AB) two-holds)
+    then due.minimum-unframed none-unframed
+    then due.minimum-missing bare-sound (ap first-of bare-holds)
+    then due.minimum-found two-sound (holding 0 7) (ap first-of two-holds)
+    then due.maximum-unframed none-unframed
+    then due.maximum-missing bare-sound (ap last-of bare-holds)
+    then due.maximum-found two-sound (holding 1 8) (ap last-of two-holds)
+    then tt
+
+-- ── a leaf number: of no frame, of no pool, free, with a broken rule, with a reference that names no leaf, the last, and the first ──
+first-used : InUse (lend two 0) 0
+unfolding opened
+first-used = record { fits = refl; pool = refl; used = λ e. omega arith }
+
+last-used : InUse (lend two 0) 1
+unfolding opened
+last-used = record { fits = refl; pool = refl; used = λ e. omega arith }
+
+overlong-used : InUse (lend overlong 0) 0
+unfolding opened
+overlong-used = record { fits = refl; pool = refl; used = λ e. omega arith }
+
+astray-used : InUse (lend astray 0) 0
+unfolding opened
+astray-used = record { fits = refl; pool = refl; used = λ e. omega arith }
+
+abbrev leaves : List Line
+leaves =
+    line (next-leaf 0) (lend nothing 0) 6
+    ∷ line (next-leaf 2) (lend two 0) 9
+    ∷ line (next-leaf 1) (lend spare 0) 9
+    ∷ line (next-leaf 0) (lend overlong 0) 6
+    ∷ line (next-leaf 0) (lend astray 0) 6
+    ∷ line (next-leaf 1) (lend two 0) 1
+    ∷ line (next-leaf 0) (lend two 0) 0
+    ∷ line (leaf-facts 0) (lend nothing 0) 6
+    ∷ line (leaf-facts 2) (lend two 0) 9
+    ∷ line (leaf-facts 1) (lend spare 0) 9
+    ∷ line (leaf-facts 0) (lend overlong 0) 6
+    ∷ line (leaf-facts 0) (lend two 0) 0
+    ∷ []
+
+leaves-due : Dues leaves
+unfolding opened
+leaves-due =
+    due.next-unframed none-unframed
+    then due.next-outside refl refl
+    then due.next-free refl refl refl
+    then due.next-broken overlong-used refl
+    then due.next-unnamed astray-used refl (λ e. omega arith) refl
+    then due.next-end last-used refl refl
+    then due.next-done first-used refl (λ e. omega arith) refl
+    then due.facts-unframed none-unframed
+    then due.facts-outside refl refl
+    then due.facts-free refl refl refl
+    then due.facts-broken overlong-used refl
+    then due.facts-done first-used refl
+    then tt
+
+-- ── the calls with scratch ──
+abbrev scratched : List Line
+scratched =
+    line check (lend nothing 0) 6
+    ∷ line check (lend two 2) 7
+    ∷ line check (lend broken 3) 6
+    ∷ line check (lend two 3) 0
+    ∷ line (first-at-or-after A) (lend nothing 0) 6
+    ∷ line (first-at-or-after A) (lend two 2) 7
+    ∷ line (first-at-or-after A) (lend broken 3) 6
+    ∷ line (first-at-or-after C) (lend two 3) 1
+    ∷ line (first-at-or-after AB) (lend two 3) 0
+    ∷ line (delete A) (lend nothing 0) 6
+    ∷ line (delete A) (lend two 2) 7
+    ∷ line (delete A) (lend broken 3) 6
+    ∷ line (delete C) (lend two 3) 1
+    ∷ line (delete A) (lend two 3) 0
+    ∷ []
+
+scratched-due : Dues scratched
+unfolding opened
+scratched-due =
+    due.check-unframed none-unframed
+    then due.check-short two-short
+    then due.check-unsound broken-unsound
+    then due.check-sound two-passed
+    then due.after-unframed none-unframed
+    then due.after-short two-short
+    then due.after-unsound broken-unsound
+    then due.after-missing two-passed (ap (after C) two-holds)
+    then due.after-found two-passed (holding 1 8) (ap (after AB) two-holds)
+    then due.delete-unframed none-unframed
+    then due.delete-short two-short
+    then due.delete-unsound broken-unsound
+    then due.delete-missing two-passed (ap (lookup C) two-holds)
+    then due.delete-held two-passed (holding 0 7) (ap (lookup A) two-holds)
+    then tt
+
+abbrev inserts : List Line
+inserts =
+    line (insert (replicate 65 65) 1) (lend nothing 0) 2
+    ∷ line (insert A 1) (lend nothing 0) 6
+    ∷ line (insert A 1) (lend two 2) 7
+    ∷ line (insert A 1) (lend broken 3) 6
+    ∷ line (insert A 1) (lend two 3) 0
+    ∷ line (insert AB 1) (lend two 3) 3
+    ∷ line (insert C 1) (lend two 3) 4
+    ∷ line (insert B 1) (lend lone 2) 5
+    ∷ line (insert C 1) (lend room 5) 0
+    ∷ []
+
+inserts-due : Dues inserts
+unfolding opened
+inserts-due =
+    due.insert-long {t = replicate 65 65} (omega arith)
+    then due.insert-unframed {t = A} (omega arith) none-unframed
+    then due.insert-short {t = A} (omega arith) two-short
+    then due.insert-unsound {t = A} (omega arith) broken-unsound
+    then due.insert-over {t = A} (omega arith) two-passed (ap (judge A) two-holds)
+    then due.insert-clash {t = AB} (omega arith) two-passed (ap (judge AB) two-holds)
+    then due.insert-full {t = C} (omega arith) two-passed (ap (judge C) two-holds) two-full
+    then due.insert-lacking {t = B} (omega arith) lone-passed (ap (judge B) lone-holds) lone-not-full lone-lacks
+    then due.insert-new {t = C} (omega arith) room-passed (ap (judge C) room-holds) room-not-full room-not-lacks
+    then tt
+
+-- ── so each gives its number ──
+a : Bytes A
+a = tag-bytes A refl
+
+b : Bytes B
+b = tag-bytes B refl
+
+c : Bytes C
+c = tag-bytes C refl
+
+ab : Bytes AB
+ab = tag-bytes AB refl
+
+starts-given : Given starts
+starts-given = dues-given starts (tt then tt then tt) starts-due
+
+searches-given : Given searches
+searches-given = dues-given searches (a then c then a then ab then c then ab then tt then tt then tt then tt then tt then tt then tt) searches-due
+
+leaves-given : Given leaves
+leaves-given = dues-given leaves (tt then tt then tt then tt then tt then tt then tt then tt then tt then tt then tt then tt then tt) leaves-due
+
+scratched-given : Given scratched
+scratched-given = dues-given scratched (tt then tt then tt then tt then a then a then a then c then ab then a then a then a then c then a then tt) scratched-due
+
+inserts-given : Given inserts
+inserts-given = dues-given inserts (tag-bytes (replicate 65 65) refl then a then a then a then a then ab then c then b then c then tt) inserts-due

@@ -1,0 +1,91 @@
+-- The definitions that a call computes through, crate by crate and then under one name: to unfold `opened` is to unfold them all, so that what is said of written-out words holds by computing.
+use native.Mathlib.Decide.{ℕ-discrete, decLe, decLt}
+use Rattle.lists.specs.Edit.{shiftIn, shiftOut}
+use Rattle.lists.specs.Part.{splice}
+use Rattle.prefix.specs.Match.{lengthMatch, matchOf}
+use Rattle.prefix.specs.Run.{prefixOf, ltrimOf, splitOf, pushOf, mergeOf}
+use Rattle.art.specs.Changes.{meet, has}
+use Rattle.art.specs.Nodes.{meets-dec}
+use Rattle.art.specs.Puts.{less-dec}
+use Rattle.art.specs.Tags.{order, tag-dec, begins-dec, fits-dec}
+use Rattle.frames.specs.Form.{formKnown, formOf, storedOf}
+use Rattle.frames.specs.Frame.{formFits, trailerFits, frameFits, frameOf}
+use Rattle.frames.specs.Kind.{kindRow}
+use Rattle.records.specs.Own.{prefixAt, headOk, sortedOk, indirectOk, directOk, bodyOk, innerOk, sortedChild, indirectChild, childOf, childAt, leafOk, totalOf}
+use Rattle.records.specs.Row.{bodyRow}
+use Rattle.records.specs.View.{cellOf}
+use Rattle.edits.specs.Body.{sortedAdd, sortedRemove, sortedReplace, slotAdd, slotRemove, slotReplace, bodyAdd, bodyRemove, bodyReplace, sortedSpread, slotSpread, bodySpread, sortedBody, slotBody, bodyOf}
+use Rattle.edits.specs.Head.{setPrefix, setHead}
+use Rattle.edits.specs.Record.{addOf, removeOf, replaceOf, spreadOf, buildRec}
+use Rattle.pools.specs.Leaf.{leafWords, setTotal}
+use Rattle.pools.specs.Link.{setTrailer, setNext, setPrevious, setLink}
+use Rattle.pools.specs.Pool.{lowestFree, freeKind}
+use Rattle.pools.specs.Start.{startFits, trailerWords, startOf}
+use Rattle.view.specs.Links.{linksOf}
+use Rattle.tree.specs.Arrive.{arrivalAt, withFrame}
+use Rattle.tree.specs.Edge.{edgeRef, edgeStep, edgeOf}
+use Rattle.leaves.specs.Leaf.{leafState, nextOf, tagLen}
+use Rattle.tree.specs.Walk as walk
+use Rattle.whole.specs.Check.{rootWay, wayWell, wholeBy, wholeOf, checkOf}
+use Rattle.whole.specs.Marks.{placesIn, fresh, reached}
+use Rattle.whole.specs.Sweep.{sweptAt, sweptPool, swept}
+use Rattle.whole.specs.Visit.{leafVisit, turnAt, rowEnd, rowBy, recordBy}
+use Rattle.whole.specs.Witness.{tagAt, goesOn, storedAgrees}
+use Rattle.range.specs.Range as range
+use Rattle.points.specs.Point as points
+use Rattle.writes.specs.At.{addAt, removeAt, replaceAt, prefixedAt, branchAt, moveAt, dropAt, clearAt}
+use Rattle.writes.specs.Leaf.{leafIn, keyIn, leafOut, keyOut, totalAt}
+use Rattle.insert.specs.Apply.{grown, forked, hung, newWords}
+use Rattle.insert.specs.Insert.{insertSound, insertChecked, insertOf}
+use Rattle.insert.specs.Plan as insert-plan
+use Rattle.delete.specs.Apply.{merged, shrunk, pruned, goneWords}
+use Rattle.delete.specs.Delete.{deleteSound, deleteChecked, deleteOf}
+use Rattle.delete.specs.Plan as delete-plan
+
+unfoldable pub lists-opened : Unit {0}
+unfolding ℕ-discrete decLe decLt shiftIn shiftOut splice lengthMatch matchOf prefixOf ltrimOf splitOf pushOf mergeOf
+lists-opened = tt
+
+unfoldable pub art-opened : Unit {0}
+unfolding meet has meets-dec less-dec order tag-dec begins-dec fits-dec
+art-opened = tt
+
+unfoldable pub frames-opened : Unit {0}
+unfolding formKnown formOf storedOf formFits trailerFits frameFits frameOf kindRow
+frames-opened = tt
+
+unfoldable pub records-opened : Unit {0}
+unfolding prefixAt headOk sortedOk indirectOk directOk bodyOk innerOk sortedChild indirectChild childOf childAt leafOk totalOf bodyRow cellOf
+records-opened = tt
+
+unfoldable pub edits-opened : Unit {0}
+unfolding sortedAdd sortedRemove sortedReplace slotAdd slotRemove slotReplace bodyAdd bodyRemove bodyReplace sortedSpread slotSpread bodySpread sortedBody slotBody bodyOf setPrefix setHead addOf removeOf replaceOf spreadOf buildRec
+edits-opened = tt
+
+unfoldable pub pools-opened : Unit {0}
+unfolding leafWords setTotal setTrailer setNext setPrevious lowestFree freeKind startFits trailerWords startOf setLink linksOf
+pools-opened = tt
+
+unfoldable pub tree-opened : Unit {0}
+unfolding arrivalAt withFrame edgeRef edgeStep edgeOf leafState nextOf tagLen walk.leafAnswer walk.innerStep walk.stepOf walk.walkOf
+tree-opened = tt
+
+unfoldable pub whole-opened : Unit {0}
+unfolding rootWay wayWell wholeBy wholeOf checkOf placesIn fresh reached sweptAt sweptPool swept leafVisit turnAt rowEnd rowBy recordBy tagAt goesOn storedAgrees
+whole-opened = tt
+
+unfoldable pub points-opened : Unit {0}
+unfolding range.below range.leafStep range.stepOf range.afterFrom range.afterOf points.leafPoint points.runOf points.innerStep points.stepOf points.pointFrom points.pointOf
+points-opened = tt
+
+unfoldable pub writes-opened : Unit {0}
+unfolding addAt removeAt replaceAt prefixedAt branchAt moveAt dropAt clearAt leafIn keyIn leafOut keyOut totalAt
+writes-opened = tt
+
+unfoldable pub calls-opened : Unit {0}
+unfolding grown forked hung newWords insertSound insertChecked insertOf insert-plan.intoChoice insert-plan.forkChoice insert-plan.leafPlan insert-plan.pointPlan insert-plan.planOf merged shrunk pruned goneWords deleteSound deleteChecked deleteOf delete-plan.otherEntry delete-plan.shrinkCut delete-plan.cutUnder delete-plan.pointPlan delete-plan.planOf
+calls-opened = tt
+
+unfoldable pub opened : Unit {0}
+unfolding lists-opened art-opened frames-opened records-opened edits-opened pools-opened tree-opened whole-opened points-opened writes-opened calls-opened
+opened = tt

@@ -1,0 +1,1 @@
+// Instances of the theorems: theorems alone, no code.

@@ -1,0 +1,202 @@
+// Answers commands, one a line, as bench/blart/src/bin/driver and bench/port.c do; bench/README.md lists them. `stdin` is a sample of the lists that are put to
+// the crate, and `stdout` what the crate itself answered, so the port is compared with the crate's answers where there is no Rust.
+mod draw; // the tree on one line
+mod line; // a line read and taken apart
+mod say; // what is printed
+mod text; // words, tags and numbers
+
+use line::Command;
+
+// Room for 256 tags, whatever they are: capacities 256, 64, 16, 5 and 256, so 19 × 256 + 43 × 64 + 315 × 16 + 267 × 5 + 6 × 256 + 16 words, 64 key bytes a leaf,
+// and a scratch byte a record.
+const TAGS: u32 = 256;
+
+const WORDS: usize = 15543;
+
+const KEYS: usize = 16384;
+
+const SCRATCH: usize = 597;
+
+// An empty directory.
+fn start(words: &mut [u32], keys: &mut [u8]) -> u32 {
+    directory_c::directory_start(words, keys, 256, 64, 16, 5, TAGS)
+}
+
+// Scratch is lent for one call, so each that wants it has its own.
+fn insert(words: &mut [u32], keys: &mut [u8], tag: &[u8], total: u64) {
+    let mut scratch = [0u8; SCRATCH];
+    let before = draw::trailer(words, 14);
+    let a = directory_c::directory_insert(words, keys, &mut scratch, tag, total);
+    say::inserted(a, before, draw::trailer(words, 14));
+}
+
+fn delete(words: &mut [u32], keys: &mut [u8], tag: &[u8]) {
+    let mut scratch = [0u8; SCRATCH];
+    say::deleted(directory_c::directory_delete(words, keys, &mut scratch, tag));
+}
+
+fn at_or_after(words: &[u32], keys: &[u8], tag: &[u8]) {
+    let mut scratch = [0u8; SCRATCH];
+    let a = directory_c::directory_first_at_or_after(words, keys, &mut scratch, tag);
+    say::found(words, keys, a);
+}
+
+fn sound(words: &[u32], keys: &[u8]) -> u32 {
+    let mut scratch = [0u8; SCRATCH];
+    directory_c::directory_check(words, keys, &mut scratch)
+}
+
+// The leaf after a held tag.
+fn next(words: &[u32], keys: &[u8], tag: &[u8]) {
+    let held = directory_c::directory_search(words, keys, tag);
+    if held.number == 1 {
+        say::say(b"9");
+        return;
+    }
+    say::found(
+        words,
+        keys,
+        directory_c::directory_next_leaf(words, keys, held.leaf),
+    );
+}
+
+// A question about a tag.
+fn ask(words: &[u32], keys: &[u8], tag: &[u8], name: u32) {
+    if name == line::AFTER {
+        at_or_after(words, keys, tag);
+        return;
+    }
+    if name == line::PREFIX {
+        say::found(
+            words,
+            keys,
+            directory_c::directory_prefix_search(words, keys, tag),
+        );
+        return;
+    }
+    if name == line::NEXT {
+        next(words, keys, tag);
+        return;
+    }
+    say::found(words, keys, directory_c::directory_search(words, keys, tag));
+}
+
+// How many leaves the list has from the minimum on, up to as many as there are.
+fn list_length(words: &[u32], keys: &[u8]) -> u32 {
+    let mut a = directory_c::directory_minimum(words, keys);
+    let mut n: u32 = 0;
+    while n < TAGS {
+        if a.number != 0 {
+            return n;
+        }
+        a = directory_c::directory_next_leaf(words, keys, a.leaf);
+        n += 1;
+    }
+    n
+}
+
+// The leaves along the list, after their number.
+fn list(words: &[u32], keys: &[u8]) {
+    let mut left = list_length(words, keys);
+    say::number(left as u64);
+    let mut a = directory_c::directory_minimum(words, keys);
+    while 0 < left {
+        say::listed(words, keys, a.leaf);
+        a = directory_c::directory_next_leaf(words, keys, a.leaf);
+        left -= 1;
+    }
+}
+
+// The ends, the list and the tag count.
+fn tell(words: &[u32], keys: &[u8], name: u32) {
+    if name == line::MINIMUM {
+        say::found(words, keys, directory_c::directory_minimum(words, keys));
+        return;
+    }
+    if name == line::MAXIMUM {
+        say::found(words, keys, directory_c::directory_maximum(words, keys));
+        return;
+    }
+    if name == line::LIST {
+        list(words, keys);
+        return;
+    }
+    say::number(draw::trailer(words, 14) as u64);
+}
+
+// The calls that look at the whole block; one that is not sound is not drawn.
+fn look(words: &[u32], keys: &[u8], name: u32) {
+    let number = sound(words, keys);
+    if number != 0 {
+        say::number(number as u64);
+        return;
+    }
+    if name == line::CHECK {
+        draw::used(words);
+        return;
+    }
+    draw::tree(words, keys, name);
+}
+
+// A command that changes nothing.
+fn read(words: &[u32], keys: &[u8], tag: &[u8], name: u32) {
+    if name <= line::NEXT {
+        ask(words, keys, tag, name);
+        return;
+    }
+    if name <= line::SLOTS {
+        look(words, keys, name);
+        return;
+    }
+    tell(words, keys, name);
+}
+
+fn answer(words: &mut [u32], keys: &mut [u8], tag: &[u8], c: Command) {
+    if c.name == line::RESET {
+        say::number(start(words, keys) as u64);
+        return;
+    }
+    if c.name == line::INSERT {
+        insert(words, keys, tag, c.total);
+        return;
+    }
+    if c.name == line::DELETE {
+        delete(words, keys, tag);
+        return;
+    }
+    read(words, keys, tag, c.name);
+}
+
+// One line read and answered; false after the last.
+fn turn(words: &mut [u32], keys: &mut [u8]) -> bool {
+    let mut space = [0u8; 128];
+    let c = line::next(&mut space);
+    if c.name == line::END {
+        return false;
+    }
+    if c.name == line::NOTHING {
+        return true;
+    }
+    let n = c.length;
+    answer(words, keys, &space[0..n], c);
+    say::line_end();
+    true
+}
+
+// A proved loop ends, and nothing says that the input does; so the turns are counted down from a number that no run uses up.
+fn run(words: &mut [u32], keys: &mut [u8]) {
+    let mut turns = u64::MAX;
+    while 0 < turns {
+        if !turn(words, keys) {
+            return;
+        }
+        turns -= 1;
+    }
+}
+
+fn main() {
+    let mut words = [0u32; WORDS];
+    let mut keys = [0u8; KEYS];
+    start(&mut words, &mut keys);
+    run(&mut words, &mut keys);
+}
