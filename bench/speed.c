@@ -11,6 +11,7 @@
 #include <string.h>
 #include <time.h>
 
+#include "by_hand.h"
 #include "directory.h"
 
 /* So many calls in each run, and of the check so many by the number of tags. Runs are short, so that some fall where the machine does nothing else; inserts and
@@ -100,6 +101,20 @@ static void search(void) {
     for (uint32_t i = 0; i < tags; i++) sink += directory_search(BLOCK, names[i].bytes, names[i].length).total;
 }
 
+static void by_hand(void) {
+    for (uint32_t i = 0; i < tags; i++) sink += by_hand_search(BLOCK, names[i].bytes, names[i].length).total;
+}
+
+/* The search by hand says what the port says of each tag, and of each with bytes behind it, which is not held. */
+static void see_same(const name *all) {
+    for (uint32_t i = 0; i < tags; i++) {
+        directory_found a = directory_search(BLOCK, all[i].bytes, all[i].length), b = by_hand_search(BLOCK, all[i].bytes, all[i].length);
+        if (a.number == b.number && a.leaf == b.leaf && a.total == b.total) continue;
+        fprintf(stderr, "the search by hand has another answer\n");
+        exit(1);
+    }
+}
+
 static void prefix_search(void) {
     for (uint32_t i = 0; i < tags; i++) sink += directory_prefix_search(BLOCK, longer[i].bytes, longer[i].length).total;
 }
@@ -158,7 +173,9 @@ int main(void) {
         start();
         time_changes();
         fill();
+        see_same(names), see_same(longer);
         time_passes("search", search, tags, READS);
+        time_passes("search_by_hand", by_hand, tags, READS);
         time_passes("prefix_search", prefix_search, tags, READS);
         time_passes("minimum", minimum, tags, READS);
         time_passes("next_leaf", next_leaf, tags, READS);
