@@ -4,7 +4,7 @@ ghost use mathlib.Core.Path.{_≡_};
 ghost use Prim.Native.Nat.{_≤_, _<_};
 ghost use lib.ListN.{length};
 ghost use Rattle.frames.specs.Frame.{FrameOf};
-ghost use Rattle.pools.specs.Link.{LeafOrEnd, setTrailer, setNext, setPrevious};
+ghost use Rattle.pools.specs.Link.{LeafOrEnd, setTrailer, setLink, setNext, setPrevious};
 use frames::frame;
 use frames::frame::Frame;
 
@@ -18,17 +18,33 @@ pub fn set_trailer(words: &mut [u32], i: usize, value: u32)
     words[at] = value;
 }
 
+// A link: the word `side` of the leaf that a reference names, or the word `edge` of the trailer where it is 0.
+fn set_link(
+    words: &mut [u32],
+    keys: &[u8],
+    f: Frame,
+    reference: u32,
+    edge: usize,
+    side: usize,
+    value: u32,
+)
+    requires { ⌜ (FrameOf f (now words) (now keys) × LeafOrEnd f reference) × ((edge < 16) × (side < 6)) ⌝ }
+    ensures { λ _. ⌜ now (words .exit) ≡ setLink edge side f reference value (now (words .entry)) ⌝ }
+{
+    if reference == 0 {
+        set_trailer(words, edge, value);
+        return;
+    }
+    let at = frame::start_at(f, reference) + side;
+    words[at] = value;
+}
+
 // What comes after the leaf that `before` names, or first of all where that is 0.
 pub fn set_next(words: &mut [u32], keys: &[u8], f: Frame, before: u32, value: u32)
     requires { ⌜ FrameOf f (now words) (now keys) × LeafOrEnd f before ⌝ }
     ensures { λ _. ⌜ now (words .exit) ≡ setNext f before value (now (words .entry)) ⌝ }
 {
-    if before == 0 {
-        set_trailer(words, 12, value);
-        return;
-    }
-    let at = frame::start_at(f, before) + 3;
-    words[at] = value;
+    set_link(words, keys, f, before, 12, 3, value);
 }
 
 // What comes before the leaf that `after` names, or last of all where that is 0.
@@ -36,10 +52,5 @@ pub fn set_previous(words: &mut [u32], keys: &[u8], f: Frame, after: u32, value:
     requires { ⌜ FrameOf f (now words) (now keys) × LeafOrEnd f after ⌝ }
     ensures { λ _. ⌜ now (words .exit) ≡ setPrevious f after value (now (words .entry)) ⌝ }
 {
-    if after == 0 {
-        set_trailer(words, 13, value);
-        return;
-    }
-    let at = frame::start_at(f, after) + 2;
-    words[at] = value;
+    set_link(words, keys, f, after, 13, 2, value);
 }

@@ -1,54 +1,12 @@
--- `links::set_next` meets its contract: a word of the trailer where there is no leaf before, else a word of that leaf, which stands before the trailer.
-use native.Mathlib.Omega.{arith}
-use borrow.Author.Tests.{eq-eqb, ne-eqb}
+-- `links::set_next` meets its contract: it is the link to the leaf after.
 use borrow.Author.Needs.{needs}
-use Rattle.frames.proofs.Frames.{framed, totals}
-use Rattle.pools.specs.Link.{setLink, setNext}
-use Rattle.pools.proofs.LeafEnds.{leaf-in, leaf-ends}
+use Rattle.pools.specs.Link.{setNext}
 use Rattle.pools.proofs.links.set_next.Statement.{statement}
 use Rattle.pools.proofs.links.set_next.Tie as tie
 
-set-trailer-requires : tie.Need-set-trailer-requires
-set-trailer-requires c κs = (totals _ _ (c .before .before .before .before .pre .0 .fits) .long, omega arith)
-
 returns : tie.Need-returns
-unfolding setNext setLink
-returns c = simp (eq-eqb _ _ (c .before .before .before .before .if1 .taken)) (c .before .before .set-trailer .ensures)
-
-start-at-requires : tie.Need-start-at-requires
-start-at-requires c κs =
-    let b3 = c .before .before .before in
-    (framed (b3 .pre .0), leaf-in (b3 .pre .0) (b3 .args .before) (c .if1 .left) (b3 .pre .1))
-
-add-at : tie.Need-add-at
-add-at c =
-    let b4 = c .before .before .before .before in
-    omega (arith, c .start-at .ensures, leaf-ends (b4 .pre .0) (b4 .args .before) (c .before .if1 .left) (b4 .pre .1))
-
-mul-words : tie.Need-mul-words
-mul-words c =
-    let b4 = c .before .before .before .before in
-    omega (arith, c .start-at .ensures, leaf-ends (b4 .pre .0) (b4 .args .before) (c .before .if1 .left) (b4 .pre .1))
-
-slice-write-words : tie.Need-slice-write-words
-slice-write-words c =
-    let b4 = c .before .before .before .before in
-    omega (arith, c .start-at .ensures, leaf-ends (b4 .pre .0) (b4 .args .before) (c .before .if1 .left) (b4 .pre .1))
-
-returns-2 : tie.Need-returns-2
-unfolding setNext setLink
-returns-2 c = simp (ne-eqb _ _ (c .before .if1 .left), c .start-at .ensures)
+unfolding setNext
+returns c = c .before .before .set-link .ensures
 
 pub set-next-spec : {M : Type 1} → statement M
-set-next-spec =
-    tie.close
-    (tie.spec
-    set-trailer-requires
-    (λ c. search needs)
-    returns
-    start-at-requires
-    add-at
-    mul-words
-    slice-write-words
-    (λ c. search needs)
-    returns-2)
+set-next-spec = tie.close (tie.spec (λ c κs. search needs) (λ c. search needs) returns)
