@@ -3,6 +3,7 @@ use Prim.Native.Nat.{ℕ}
 use mathlib.Core.Path.{_≡_, refl, ap, subst, _∙_}
 use mathlib.Core.Logic.{_≢_}
 use mathlib.Core.List.{List, [], _∷_}
+use mathlib.Core.Option.{some}
 use native.Mathlib.Omega.{arith}
 use lib.ListN.{replicate}
 use Rattle.records.specs.View.{Held}
@@ -34,10 +35,10 @@ use Rattle.demands.proofs.Frames.{frame-kept, frames-kept}
 use Rattle.demands.proofs.Numbers.{after-passed}
 use Rattle.demands.proofs.Steps.{step-sound}
 use Rattle.demands.proofs.Histories.{drawing-is}
-use Rattle.demands.proofs.Corollaries.{either-order, restored}
+use Rattle.demands.proofs.Corollaries.{one-tree, either-order, restored}
 use Rattle.instances.specs.Opened.{opened}
-use Rattle.instances.specs.Blocks.{bare, spare, two, room, three, lend, A, B, C, AB, entry}
-use Rattle.instances.proofs.Sounds.{bare-sound, spare-sound, room-sound, swapped-sound, two-holds, spare-holds, room-holds, two-passed}
+use Rattle.instances.specs.Blocks.{bare, spare, two, room, three, lend, A, B, C, AB, entry, pair}
+use Rattle.instances.proofs.Sounds.{bare-sound, spare-sound, room-sound, swapped-sound, two-holds, spare-holds, room-holds, two-passed, two-tree}
 
 -- ── one outcome ──
 abbrev put : Outcome
@@ -130,3 +131,8 @@ undone-draws s =
     restored spare spare-sound (tag-bytes (spare .keys) refl) B 8 (tag-bytes B refl) (ap (lookup B) spare-holds) (replicate 3 1) (replicate 3 1) refl refl s
     ∙ drawing-is (spare-sound .tree) (spare-sound .good)
     ∙ ap (λ (l : Listing Held). draw (totals l)) spare-holds
+
+-- ── what a sound block holds is fixed ──
+-- whatever shows the block of A and B sound, its tree is the one with these two
+two-fixed : (s : Sound two-words two-keys) → s .tree ≡ some pair
+two-fixed s = one-tree s two-sound ∙ two-tree

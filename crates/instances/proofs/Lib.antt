@@ -16,3 +16,4 @@ mod Lists
 mod Prefix
 mod Frames
 mod Art
+mod Agree
