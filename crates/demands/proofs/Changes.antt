@@ -1,11 +1,13 @@
 -- What an accepted insert or delete makes of a sound block: a sound block again, in the same frame, with the tag put in, altered or left out.
 use Prim.Native.Nat.{ℕ, _/_, _≤_}
-use mathlib.Core.Path.{_≡_, refl, sym}
+use mathlib.Core.Path.{_≡_, refl, sym, ap}
 use mathlib.Core.Logic.{_≢_}
 use mathlib.Core.List.{List}
 use mathlib.Core.Option.{some}
 use lib.ListN.{length}
+use Rattle.frames.specs.Form.{formOf}
 use Rattle.frames.specs.Place.{recordAt}
+use Rattle.frames.specs.declared.form.Form.{Form}
 use Rattle.records.specs.Own.{totalOf}
 use Rattle.records.specs.View.{Held}
 use Rattle.art.specs.Listings.{lookup}
@@ -21,6 +23,7 @@ use Rattle.insert.specs.Plan as insert-plan
 use Rattle.insert.specs.Apply.{newWords}
 use Rattle.insert.specs.declared.plan.Site.{Site}
 use Rattle.insert.specs.declared.plan.Plan.the-variants as new
+use Rattle.insert.proofs.Inserts.{one-form}
 use Rattle.insert.proofs.Ready.{bytes-all}
 use Rattle.insert.proofs.Sounds as insert-sounds
 use Rattle.insert.proofs.Overs as overs
@@ -32,6 +35,10 @@ use Rattle.delete.specs.declared.plan.Cut.{Cut}
 use Rattle.delete.specs.declared.plan.Plan.the-variants as gone
 use Rattle.delete.proofs.Sounds as delete-sounds
 use Rattle.delete.proofs.Answers as delete-answers
+
+-- there is one form
+pub frame-limit : {words keys : List ℕ} → Sound words keys → frame words .form .limit ≡ formOf 1 .limit
+frame-limit {words} {keys} s = ap (λ (g : Form). g .limit) (one-form words keys (s .fits))
 
 module _ {words keys : List ℕ} (s : Sound words keys) (tag : List ℕ) (bytes : Bytes tag) where
   -- ── a new tag ──

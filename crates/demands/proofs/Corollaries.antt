@@ -38,12 +38,11 @@ use Rattle.delete.specs.declared.answer.Deleted.the-variants as deleted
 use Rattle.demands.specs.Histories.{Block, next, leaves, nothing, insertChange, deleteChange, changeOf, totals, told, CallBytes}
 use Rattle.demands.specs.Drawn.{drawing}
 use Rattle.demands.specs.Accepts.{Edit, insert, delete, tagOf, callOf, turn, Accepted, effect, done}
-use Rattle.demands.proofs.Changes.{insert-sound, over-held}
+use Rattle.demands.proofs.Changes.{frame-limit, insert-sound, over-held}
 use Rattle.demands.proofs.Cases.{insert-cases, delete-cases}
-use Rattle.demands.proofs.Frames.{frame-limit}
-use Rattle.demands.proofs.KeyBytes.{step-bytes}
 use Rattle.demands.proofs.Totals.{total-of, totals-sorted, totals-lookup}
 use Rattle.demands.proofs.Steps.{held-sorted, step-sound}
+use Rattle.demands.proofs.KeyBytes.{step-bytes}
 use Rattle.demands.proofs.Histories.{drawing-is}
 use Rattle.demands.proofs.Swaps.{put-new, lookup-new, new-lookup, put-leave, lookup-put, lookup-alter, put-put, put-alter, alter-alter}
 

@@ -3,24 +3,17 @@ use Prim.Native.Nat.{ℕ, _≤_}
 use mathlib.Core.Path.{_≡_, refl, sym, ap, subst, _∙_}
 use mathlib.Core.List.{List, [], _∷_}
 use lib.ListN.{length}
-use Rattle.frames.specs.Form.{formOf}
 use Rattle.frames.specs.Frame.{frame}
-use Rattle.frames.specs.declared.form.Form.{Form}
 use Rattle.reading.specs.Answers.{Bytes}
 use Rattle.whole.specs.Sound.{Sound}
 use Rattle.insert.specs.Insert as insert-call
-use Rattle.insert.proofs.Inserts.{one-form}
 use Rattle.delete.specs.Delete as delete-call
 use Rattle.demands.specs.Calls.{Call, start, search, prefix-search, minimum, maximum, next-leaf, leaf-facts, leaf-tag, check, first-at-or-after, insert, delete, Slices, run}
 use Rattle.demands.specs.Histories.{Block, Turn, lent, next, after-all, CallBytes, AllBytes}
 use Rattle.demands.specs.Frames.{FrameKept, NoStart, NoStarts}
-use Rattle.demands.proofs.Changes.{insert-sound, insert-frame, over-sound, over-frame, delete-sound, delete-frame}
+use Rattle.demands.proofs.Changes.{frame-limit, insert-sound, insert-frame, over-sound, over-frame, delete-sound, delete-frame}
 use Rattle.demands.proofs.Cases.{insert-cases, delete-cases}
 use Rattle.demands.proofs.KeyBytes.{step-bytes}
-
--- there is one form
-pub frame-limit : {words keys : List ℕ} → Sound words keys → frame words .form .limit ≡ formOf 1 .limit
-frame-limit {words} {keys} s = ap (λ (g : Form). g .limit) (one-form words keys (s .fits))
 
 kept : (words keys : List ℕ) → FrameKept words keys words keys
 kept words keys = (refl, λ h. h)

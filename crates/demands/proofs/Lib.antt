@@ -12,4 +12,5 @@ pub mod Histories
 pub mod Swaps
 pub mod Corollaries
 pub mod Tested
+pub mod Ways
 pub mod Numbers

@@ -15,9 +15,9 @@ use Rattle.frames.specs.Place.{placeAt, inPool, startAt, recordAt}
 use Rattle.frames.specs.declared.frame.Caps.{Caps}
 use Rattle.frames.specs.declared.frame.Frame.{Frame}
 use Rattle.records.specs.View.{Held}
-use Rattle.art.specs.Tags.{Tag, exact, begin}
-use Rattle.art.specs.Listings.{find, lookup}
-use Rattle.art.specs.Orders.{first-of, last-of, after}
+use Rattle.art.specs.Tags.{Tag}
+use Rattle.art.specs.Listings.{lookup}
+use Rattle.art.specs.Orders.{after}
 use Rattle.art.specs.Verdicts.{Verdict, known, clash, free, judge}
 use Rattle.art.specs.Stores.{Place, leaf-place, inner-place}
 use Rattle.art.specs.Points.{store-of}
@@ -31,6 +31,8 @@ use Rattle.leaves.specs.Leaf.{leafState, nextOf, nextAt, nextFrom, nextLeafOf, 
 use Rattle.tree.specs.declared.answer.Found.{Found}
 use Rattle.tree.specs.declared.answer.Found.the-variants as found
 use Rattle.tree.specs.declared.answer.Facts.{Facts}
+use Rattle.tree.specs.declared.lookup.Aim.the-variants.{Exact, Begin}
+use Rattle.tree.specs.declared.minmax.Edge.the-variants.{Low, High}
 use Rattle.leaves.specs.declared.LeafState.{LeafState}
 use Rattle.leaves.specs.declared.LeafState.the-variants.{Good, Broken, NoLeaf}
 use Rattle.reading.specs.Answers.{Bytes, answerOf}
@@ -60,11 +62,12 @@ use Rattle.delete.specs.declared.answer.Deleted.{Deleted}
 use Rattle.delete.specs.declared.plan.Plan as delete-plans
 use Rattle.delete.specs.declared.plan.Plan.the-variants as gone
 use Rattle.delete.proofs.Answers as delete-answers
-use Rattle.demands.specs.Calls.{Call, start, search, prefix-search, minimum, maximum, next-leaf, leaf-facts, leaf-tag, check, first-at-or-after, insert, delete, Slices, numberOf, run}
+use Rattle.demands.specs.Calls.{Call, start, search, prefix-search, minimum, maximum, next-leaf, leaf-facts, leaf-tag, check, first-at-or-after, insert, delete, Slices, number}
 use Rattle.demands.specs.Histories.{CallBytes}
 use Rattle.demands.specs.Due as due
-use Rattle.demands.specs.Due.{Unframed, Short, Unsound, Passed, holds, InUse, obeys, nextRef, namesLeaf, named, Due, Spoken}
+use Rattle.demands.specs.Due.{Unframed, Framed, Short, Unsound, Passed, holds, InUse, obeys, nextRef, namesLeaf, named, Due}
 use Rattle.demands.proofs.Reading.{sound-reads}
+use Rattle.demands.proofs.Ways.{meets-number, met, ends-number, ended}
 use Rattle.demands.proofs.Tested.{Tests, unframed, short, unsound, passed, tested, check-unframed, check-short, check-unsound, check-passed, insert-too-long, insert-by, insert-passed, delete-by, delete-passed}
 
 -- ── where the frame does not fit ──
@@ -180,37 +183,41 @@ module _ (s : Slices) (t : Tag) (total : ℕ) (fits : length t ≤ formOf 1 .lim
   answers : room.Answers verdict full lacking (plan s t total fits p)
   answers = refusals.plan-answers (p .sound) t bytes
 
-  abbrev number : ℕ
-  number = insert-answer.numberOf (insert-call.insertOf (s .words) (s .keys) (s .scratch) t total .answer)
+  abbrev given : ℕ
+  given = insert-answer.numberOf (insert-call.insertOf (s .words) (s .keys) (s .scratch) t total .answer)
 
-  over-number : verdict ≡ known → number ≡ 0
+  over-number : verdict ≡ known → given ≡ 0
   over-number e = let r = refusals.only-over verdict full lacking (plan s t total fits p) answers e in planned-number s t total fits p (new.Over (r .0)) (r .1)
 
-  clash-number : verdict ≡ clash → number ≡ 3
+  clash-number : verdict ≡ clash → given ≡ 3
   clash-number e = planned-number s t total fits p new.Clash (refusals.only-clash verdict full lacking (plan s t total fits p) answers e)
 
-  full-number : verdict ≡ free → full → number ≡ 4
+  full-number : verdict ≡ free → full → given ≡ 4
   full-number e a = planned-number s t total fits p new.NoLeaf (refusals.only-full verdict full lacking (plan s t total fits p) answers e a)
 
-  lacking-number : verdict ≡ free → ¬ full → lacking → number ≡ 5
+  lacking-number : verdict ≡ free → ¬ full → lacking → given ≡ 5
   lacking-number e a b = planned-number s t total fits p new.NoRecord (refusals.only-lacking verdict full lacking (plan s t total fits p) answers e a b)
 
-  new-number : verdict ≡ free → ¬ full → ¬ lacking → number ≡ 0
+  new-number : verdict ≡ free → ¬ full → ¬ lacking → given ≡ 0
   new-number e a b = let r = refusals.only-new verdict full lacking (plan s t total fits p) answers e a b in planned-number s t total fits p (new.New (r .0) (r .1) (r .2)) (r .3)
 
-pub due-number : {c : Call} {s : Slices} {n : ℕ} → CallBytes c → Due c s n → numberOf (run c s .answer) ≡ some n
+pub due-number : {c : Call} {s : Slices} {n : ℕ} → CallBytes c → Due c s n → number c s ≡ some n
 due-number b (due.start-refused {c} {s} e) = ap some (start-number s c false e)
 due-number b (due.start-done {c} {s} e) = ap some (start-number s c true e)
 due-number b (due.search-unframed {t} {s} e) = ap (λ (a : Found). some (foundNumber a)) (unframed-is s e _ _)
+due-number b (due.search-walked {t} {s} fits m) = ap some (ap foundNumber (framed-is s fits _ _) ∙ meets-number (frame (s .words)) (s .words) (s .keys) t Exact m)
 due-number b (due.search-missing {t} {s} z e) = ap (λ (a : Found). some (foundNumber a)) (sound-reads z .search t b ∙ ap answerOf e)
 due-number b (due.search-found {t} {s} z h e) = ap (λ (a : Found). some (foundNumber a)) (sound-reads z .search t b ∙ ap answerOf e)
 due-number b (due.prefix-unframed {t} {s} e) = ap (λ (a : Found). some (foundNumber a)) (unframed-is s e _ _)
+due-number b (due.prefix-walked {t} {s} fits m) = ap some (ap foundNumber (framed-is s fits _ _) ∙ meets-number (frame (s .words)) (s .words) (s .keys) t Begin m)
 due-number b (due.prefix-missing {t} {s} z e) = ap (λ (a : Found). some (foundNumber a)) (sound-reads z .prefix-search t b ∙ ap answerOf e)
 due-number b (due.prefix-found {t} {s} z h e) = ap (λ (a : Found). some (foundNumber a)) (sound-reads z .prefix-search t b ∙ ap answerOf e)
 due-number b (due.minimum-unframed {s} e) = ap (λ (a : Found). some (foundNumber a)) (unframed-is s e _ _)
+due-number b (due.minimum-walked {s} fits m) = ap some (ap foundNumber (framed-is s fits _ _) ∙ ends-number (frame (s .words)) (s .words) (s .keys) Low m)
 due-number b (due.minimum-missing {s} z e) = ap (λ (a : Found). some (foundNumber a)) (sound-reads z .minimum ∙ ap answerOf e)
 due-number b (due.minimum-found {s} z h e) = ap (λ (a : Found). some (foundNumber a)) (sound-reads z .minimum ∙ ap answerOf e)
 due-number b (due.maximum-unframed {s} e) = ap (λ (a : Found). some (foundNumber a)) (unframed-is s e _ _)
+due-number b (due.maximum-walked {s} fits m) = ap some (ap foundNumber (framed-is s fits _ _) ∙ ends-number (frame (s .words)) (s .words) (s .keys) High m)
 due-number b (due.maximum-missing {s} z e) = ap (λ (a : Found). some (foundNumber a)) (sound-reads z .maximum ∙ ap answerOf e)
 due-number b (due.maximum-found {s} z h e) = ap (λ (a : Found). some (foundNumber a)) (sound-reads z .maximum ∙ ap answerOf e)
 due-number b (due.next-unframed {n} {s} e) = ap (λ (a : Found). some (foundNumber a)) (unframed-is s e _ _)
@@ -249,7 +256,7 @@ due-number b (due.delete-unsound {t} {s} h) = ap (λ (a : Deleted). some (delete
 due-number b (due.delete-missing {t} {s} p e) = ap some (delete-number s t b p gone.Missing (delete-answers.held-missing (p .sound) t (bytes-all t b) e))
 due-number b (due.delete-held {t} {s} p h e) = ap some (delete-done s t b p h e)
 
--- ── and there is a row for every call that the table speaks of ──
+-- ── and there is a row for every call that gives a number ──
 -- a number with its row
 abbrev Row : Call → Slices → Type 0
 Row c s = (n : ℕ) × Due c s n
@@ -258,6 +265,14 @@ Row c s = (n : ℕ) × Due c s n
 by-found : {c : Call} {s : Slices} (o : Option Held) {o′ : Option Held} → o′ ≡ o → (o′ ≡ none → Due c s 1) → ((h : Held) → o′ ≡ some h → Due c s 0) → Row c s
 by-found none e miss hit = (1, miss e)
 by-found (some h) e miss hit = (0, hit h e)
+
+-- by the frame, then as the walk meets it
+by-frame : {c : Call} {s : Slices} → (Unframed s → Due c s 6) → (Framed s → Row c s) → Row c s
+by-frame {c} {s} no-frame walked = go (frameFits (s .words) (s .keys)) refl
+  where
+    go : (b : Bool) → frameFits (s .words) (s .keys) ≡ b → Row c s
+    go false e = (6, no-frame e)
+    go true e = walked e
 
 -- by frame, scratch and soundness
 by-tests : {c : Call} {s : Slices} → (Unframed s → Due c s 6) → (Short s → Due c s 7) → (Unsound s → Due c s 6) → (Passed s → Row c s) → Tests s → Row c s
@@ -311,22 +326,22 @@ insert-row s t total bytes false e =
     by-tests (due.insert-unframed l) (due.insert-short l) (due.insert-unsound l)
     (λ p. plan-row s t total l p (insert-plan.planOf (frame (s .words)) (s .words) (s .keys) t) (refusals.plan-answers (p .sound) t bytes)) (tested s)
 
-due-row : (c : Call) (s : Slices) → Spoken c s → CallBytes c → Row c s
-due-row (start c) s k b = start-row c s (startFits (formOf 1) c (length (s .words)) (length (s .keys))) refl
-due-row (search t) s z b = by-found (find exact t (holds z)) refl (due.search-missing z) (due.search-found z)
-due-row (prefix-search t) s z b = by-found (find begin t (holds z)) refl (due.prefix-missing z) (due.prefix-found z)
-due-row minimum s z b = by-found (first-of (holds z)) refl (due.minimum-missing z) (due.minimum-found z)
-due-row maximum s z b = by-found (last-of (holds z)) refl (due.maximum-missing z) (due.maximum-found z)
-due-row (next-leaf n) s k b = by-leaf s n due.next-unframed due.next-outside due.next-free due.next-broken (next-row s n)
-due-row (leaf-facts n) s k b = by-leaf s n due.facts-unframed due.facts-outside due.facts-free due.facts-broken (λ u r. (0, due.facts-done u r))
-due-row (leaf-tag n) s k b = absurd k
-due-row check s k b = by-tests due.check-unframed due.check-short due.check-unsound (λ p. (0, due.check-sound p)) (tested s)
-due-row (first-at-or-after t) s k b =
+due-row : (c : Call) (s : Slices) (n : ℕ) → CallBytes c → number c s ≡ some n → Row c s
+due-row (start c) s n b i = start-row c s (startFits (formOf 1) c (length (s .words)) (length (s .keys))) refl
+due-row (search t) s n b i = by-frame due.search-unframed (λ e. let m = met (frame (s .words)) (s .words) (s .keys) t Exact in (m .0, due.search-walked e (m .1)))
+due-row (prefix-search t) s n b i = by-frame due.prefix-unframed (λ e. let m = met (frame (s .words)) (s .words) (s .keys) t Begin in (m .0, due.prefix-walked e (m .1)))
+due-row minimum s n b i = by-frame due.minimum-unframed (λ e. let m = ended (frame (s .words)) (s .words) (s .keys) Low in (m .0, due.minimum-walked e (m .1)))
+due-row maximum s n b i = by-frame due.maximum-unframed (λ e. let m = ended (frame (s .words)) (s .words) (s .keys) High in (m .0, due.maximum-walked e (m .1)))
+due-row (next-leaf k) s n b i = by-leaf s k due.next-unframed due.next-outside due.next-free due.next-broken (next-row s k)
+due-row (leaf-facts k) s n b i = by-leaf s k due.facts-unframed due.facts-outside due.facts-free due.facts-broken (λ u r. (0, due.facts-done u r))
+due-row (leaf-tag k) s n b i = let z : _≡_ {A = ℕ} 0 1 = cc in absurd (omega arith)
+due-row check s n b i = by-tests due.check-unframed due.check-short due.check-unsound (λ p. (0, due.check-sound p)) (tested s)
+due-row (first-at-or-after t) s n b i =
     by-tests due.after-unframed due.after-short due.after-unsound (λ p. by-found (after t (holds (p .sound))) refl (due.after-missing p) (due.after-found p)) (tested s)
-due-row (insert t total) s k b = insert-row s t total b (ltb (formOf 1 .limit) (length t)) refl
-due-row (delete t) s k b =
+due-row (insert t total) s n b i = insert-row s t total b (ltb (formOf 1 .limit) (length t)) refl
+due-row (delete t) s n b i =
     by-tests due.delete-unframed due.delete-short due.delete-unsound (λ p. by-found (lookup t (holds (p .sound))) refl (due.delete-missing p) (due.delete-held p)) (tested s)
 
--- so a number is given only where a row of the table gives it
-pub number-due : (c : Call) (s : Slices) (n : ℕ) → Spoken c s → CallBytes c → numberOf (run c s .answer) ≡ some n → Due c s n
-number-due c s n k b e = let r = due-row c s k b in subst (Due c s) (some-inj (sym (due-number b (r .1)) ∙ e)) (r .1)
+-- so every number that any call gives, on any block, is given where a row of the table gives it
+pub number-due : (c : Call) (s : Slices) (n : ℕ) → CallBytes c → number c s ≡ some n → Due c s n
+number-due c s n b e = let r = due-row c s n b e in subst (Due c s) (some-inj (sym (due-number b (r .1)) ∙ e)) (r .1)

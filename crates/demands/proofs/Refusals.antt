@@ -36,7 +36,7 @@ use Rattle.delete.specs.Plan as delete-plan
 use Rattle.delete.specs.declared.plan.Plan as delete-plans
 use Rattle.delete.specs.declared.plan.Plan.the-variants as gone
 use Rattle.demands.specs.Calls.{Call, start, search, prefix-search, minimum, maximum, next-leaf, leaf-facts, leaf-tag, check, first-at-or-after, insert, delete}
-use Rattle.demands.specs.Calls.{Slices, numberOf, run}
+use Rattle.demands.specs.Calls.{Slices, run, number}
 use Rattle.demands.specs.Scratch.{enough, leftIn}
 use Rattle.demands.proofs.Cases.{either, insert-cases, delete-cases}
 
@@ -93,7 +93,7 @@ module _ (words keys tag : List ℕ) where
 
 -- ── all calls ──
 -- a refusal changes no word and no key byte, whatever the memory holds
-pub refused-same : (c : Call) (s : Slices) (n : ℕ) → numberOf (run c s .answer) ≡ some n → n ≢ 0 → (run c s .slices .words ≡ s .words) × (run c s .slices .keys ≡ s .keys)
+pub refused-same : (c : Call) (s : Slices) (n : ℕ) → number c s ≡ some n → n ≢ 0 → (run c s .slices .words ≡ s .words) × (run c s .slices .keys ≡ s .keys)
 refused-same (start c) s n e h = start-kept (s .words) (s .keys) c (λ z. h (sym (some-inj e) ∙ z))
 refused-same (search t) s n e h = (refl, refl)
 refused-same (prefix-search t) s n e h = (refl, refl)

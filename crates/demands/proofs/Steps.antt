@@ -37,9 +37,8 @@ use Rattle.insert.specs.Meets.{newTotal}
 use Rattle.delete.specs.Delete as delete-call
 use Rattle.demands.specs.Calls.{Call, start, search, prefix-search, minimum, maximum, next-leaf, leaf-facts, leaf-tag, check, first-at-or-after, insert, delete, Slices, run}
 use Rattle.demands.specs.Histories.{Block, Turn, lent, next, Change, nothing, startChange, insertChange, deleteChange, changeOf, totals, told, counted, CallBytes}
-use Rattle.demands.proofs.Changes.{insert-sound, over-sound, delete-held, delete-sound}
+use Rattle.demands.proofs.Changes.{frame-limit, insert-sound, over-sound, delete-held, delete-sound}
 use Rattle.demands.proofs.Cases.{insert-cases, delete-cases}
-use Rattle.demands.proofs.Frames.{frame-limit}
 use Rattle.demands.proofs.Totals.{total-of, totals-sorted, totals-put, totals-alter, totals-lookup}
 
 -- what a sound block holds is sorted

@@ -113,3 +113,7 @@ run (first-at-or-after t) s = let o = after-call.afterOf (s .words) (s .keys) (s
 run (insert t total) s =
     let o = insert-call.insertOf (s .words) (s .keys) (s .scratch) t total in outcome (inserted (o .answer)) (o .words) (o .keys) (o .scratch)
 run (delete t) s = let o = delete-call.deleteOf (s .words) (s .keys) (s .scratch) t in outcome (deleted (o .answer)) (o .words) (o .keys) (o .scratch)
+
+-- the number that a call gives back
+abbrev pub number : Call → Slices → Option ℕ
+number c s = numberOf (run c s .answer)

@@ -1,4 +1,4 @@
--- The numbers given back, a table by call: each row has its condition, and that none earlier applies.
+-- The numbers given back, a table by call: each row has its condition, and that none earlier applies. The call that gives a tag gives no number.
 use Prim.Native.Nat.{ℕ, _≤_, _<_}
 use mathlib.Core.Path.{_≡_}
 use mathlib.Core.Logic.{_≢_}
@@ -21,24 +21,31 @@ use Rattle.art.specs.Deletes.{held}
 use Rattle.art.specs.Stores.{Place, leaf-place, inner-place}
 use Rattle.art.specs.Points.{store-of}
 use Rattle.pools.specs.Start.{startFits}
+use Rattle.tree.specs.declared.lookup.Aim.the-variants.{Exact, Begin}
+use Rattle.tree.specs.declared.minmax.Edge.the-variants.{Low, High}
 use Rattle.whole.specs.Marks.{placesIn}
 use Rattle.whole.specs.Sound.{Sound}
 use Rattle.insert.specs.Room.{LeavesFull, Lacking}
 use Rattle.demands.specs.Calls.{Call, start, search, prefix-search, minimum, maximum, next-leaf, leaf-facts, leaf-tag, check, first-at-or-after, insert, delete, Slices}
+use Rattle.demands.specs.Way.{Meets, Ends}
 
 -- ── frame, scratch, whole check ──
 -- 6: the frame does not fit
 abbrev pub Unframed : Slices → Type 0
 Unframed s = frameFits (s .words) (s .keys) ≡ false
 
+-- it fits
+abbrev pub Framed : Slices → Type 0
+Framed s = frameFits (s .words) (s .keys) ≡ true
+
 -- 7: it fits, and scratch has fewer bytes than the block has places
 pub record Short (s : Slices) : Type 0 where
-  pub fits : frameFits (s .words) (s .keys) ≡ true
+  pub fits : Framed s
   pub less : length (s .scratch) < placesIn (frame (s .words))
 
 -- 6: scratch is long enough, and the block is not sound
 pub record Unsound (s : Slices) : Type 0 where
-  pub fits : frameFits (s .words) (s .keys) ≡ true
+  pub fits : Framed s
   pub room : placesIn (frame (s .words)) ≤ length (s .scratch)
   pub not-sound : ¬ Sound (s .words) (s .keys)
 
@@ -54,7 +61,7 @@ holds s = held (s .tree)
 -- ── a leaf number ──
 -- a leaf of the pool whose word 0 is not 0
 pub record InUse (s : Slices) (n : ℕ) : Type 0 where
-  pub fits : frameFits (s .words) (s .keys) ≡ true
+  pub fits : Framed s
   pub pool : inPool (frame (s .words)) (leaf-place n) ≡ true
   pub used : getD (recordAt (frame (s .words)) (s .words) (leaf-place n)) 0 0 ≢ 0
 
@@ -77,31 +84,35 @@ named s ref = namesLeaf (frame (s .words)) (s .words) (placeAt ref)
 pub data Due : Call → Slices → ℕ → Type 0 where
   start-refused : {c : Caps} {s : Slices} → startFits (formOf 1) c (length (s .words)) (length (s .keys)) ≡ false → Due (start c) s 8
   start-done : {c : Caps} {s : Slices} → startFits (formOf 1) c (length (s .words)) (length (s .keys)) ≡ true → Due (start c) s 0
-  -- search, prefix search, minimum, maximum: on a sound block 1 or 0 by the list
+  -- search, prefix search, minimum, maximum: frame 6, then as the walk meets it; on a sound block 1 or 0 by the list
   search-unframed : {t : Tag} {s : Slices} → Unframed s → Due (search t) s 6
+  search-walked : {t : Tag} {s : Slices} {n : ℕ} → Framed s → Meets (frame (s .words)) (s .words) (s .keys) t Exact n → Due (search t) s n
   search-missing : {t : Tag} {s : Slices} (z : Sound (s .words) (s .keys)) → find exact t (holds z) ≡ none → Due (search t) s 1
   search-found : {t : Tag} {s : Slices} (z : Sound (s .words) (s .keys)) (h : Held) → find exact t (holds z) ≡ some h → Due (search t) s 0
   prefix-unframed : {t : Tag} {s : Slices} → Unframed s → Due (prefix-search t) s 6
+  prefix-walked : {t : Tag} {s : Slices} {n : ℕ} → Framed s → Meets (frame (s .words)) (s .words) (s .keys) t Begin n → Due (prefix-search t) s n
   prefix-missing : {t : Tag} {s : Slices} (z : Sound (s .words) (s .keys)) → find begin t (holds z) ≡ none → Due (prefix-search t) s 1
   prefix-found : {t : Tag} {s : Slices} (z : Sound (s .words) (s .keys)) (h : Held) → find begin t (holds z) ≡ some h → Due (prefix-search t) s 0
   minimum-unframed : {s : Slices} → Unframed s → Due minimum s 6
+  minimum-walked : {s : Slices} {n : ℕ} → Framed s → Ends (frame (s .words)) (s .words) (s .keys) Low n → Due minimum s n
   minimum-missing : {s : Slices} (z : Sound (s .words) (s .keys)) → first-of (holds z) ≡ none → Due minimum s 1
   minimum-found : {s : Slices} (z : Sound (s .words) (s .keys)) (h : Held) → first-of (holds z) ≡ some h → Due minimum s 0
   maximum-unframed : {s : Slices} → Unframed s → Due maximum s 6
+  maximum-walked : {s : Slices} {n : ℕ} → Framed s → Ends (frame (s .words)) (s .words) (s .keys) High n → Due maximum s n
   maximum-missing : {s : Slices} (z : Sound (s .words) (s .keys)) → last-of (holds z) ≡ none → Due maximum s 1
   maximum-found : {s : Slices} (z : Sound (s .words) (s .keys)) (h : Held) → last-of (holds z) ≡ some h → Due maximum s 0
   -- next leaf and leaf facts: frame 6, 9, the leaf's own rule 6
   next-unframed : {n : ℕ} {s : Slices} → Unframed s → Due (next-leaf n) s 6
-  next-outside : {n : ℕ} {s : Slices} → frameFits (s .words) (s .keys) ≡ true → inPool (frame (s .words)) (leaf-place n) ≡ false → Due (next-leaf n) s 9
-  next-free : {n : ℕ} {s : Slices} → frameFits (s .words) (s .keys) ≡ true → inPool (frame (s .words)) (leaf-place n) ≡ true
+  next-outside : {n : ℕ} {s : Slices} → Framed s → inPool (frame (s .words)) (leaf-place n) ≡ false → Due (next-leaf n) s 9
+  next-free : {n : ℕ} {s : Slices} → Framed s → inPool (frame (s .words)) (leaf-place n) ≡ true
       → getD (recordAt (frame (s .words)) (s .words) (leaf-place n)) 0 0 ≡ 0 → Due (next-leaf n) s 9
   next-broken : {n : ℕ} {s : Slices} → InUse s n → obeys s n ≡ false → Due (next-leaf n) s 6
   next-unnamed : {n : ℕ} {s : Slices} → InUse s n → obeys s n ≡ true → nextRef s n ≢ 0 → named s (nextRef s n) ≡ false → Due (next-leaf n) s 6
   next-end : {n : ℕ} {s : Slices} → InUse s n → obeys s n ≡ true → nextRef s n ≡ 0 → Due (next-leaf n) s 1
   next-done : {n : ℕ} {s : Slices} → InUse s n → obeys s n ≡ true → nextRef s n ≢ 0 → named s (nextRef s n) ≡ true → Due (next-leaf n) s 0
   facts-unframed : {n : ℕ} {s : Slices} → Unframed s → Due (leaf-facts n) s 6
-  facts-outside : {n : ℕ} {s : Slices} → frameFits (s .words) (s .keys) ≡ true → inPool (frame (s .words)) (leaf-place n) ≡ false → Due (leaf-facts n) s 9
-  facts-free : {n : ℕ} {s : Slices} → frameFits (s .words) (s .keys) ≡ true → inPool (frame (s .words)) (leaf-place n) ≡ true
+  facts-outside : {n : ℕ} {s : Slices} → Framed s → inPool (frame (s .words)) (leaf-place n) ≡ false → Due (leaf-facts n) s 9
+  facts-free : {n : ℕ} {s : Slices} → Framed s → inPool (frame (s .words)) (leaf-place n) ≡ true
       → getD (recordAt (frame (s .words)) (s .words) (leaf-place n)) 0 0 ≡ 0 → Due (leaf-facts n) s 9
   facts-broken : {n : ℕ} {s : Slices} → InUse s n → obeys s n ≡ false → Due (leaf-facts n) s 6
   facts-done : {n : ℕ} {s : Slices} → InUse s n → obeys s n ≡ true → Due (leaf-facts n) s 0
@@ -135,18 +146,3 @@ pub data Due : Call → Slices → ℕ → Type 0 where
   delete-unsound : {t : Tag} {s : Slices} → Unsound s → Due (delete t) s 6
   delete-missing : {t : Tag} {s : Slices} (p : Passed s) → lookup t (holds (p .sound)) ≡ none → Due (delete t) s 1
   delete-held : {t : Tag} {s : Slices} (p : Passed s) (h : Held) → lookup t (holds (p .sound)) ≡ some h → Due (delete t) s 0
-
--- the table speaks of the call here: the four searches on a damaged block answer as the walk meets it, and the call that gives a tag gives no number
-abbrev pub Spoken : Call → Slices → Type 0
-Spoken (start c) s = Unit {0}
-Spoken (search t) s = Sound (s .words) (s .keys)
-Spoken (prefix-search t) s = Sound (s .words) (s .keys)
-Spoken minimum s = Sound (s .words) (s .keys)
-Spoken maximum s = Sound (s .words) (s .keys)
-Spoken (next-leaf n) s = Unit {0}
-Spoken (leaf-facts n) s = Unit {0}
-Spoken (leaf-tag n) s = ⊥
-Spoken check s = Unit {0}
-Spoken (first-at-or-after t) s = Unit {0}
-Spoken (insert t total) s = Unit {0}
-Spoken (delete t) s = Unit {0}

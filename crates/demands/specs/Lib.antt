@@ -5,4 +5,5 @@ pub mod Scratch
 pub mod Drawn
 pub mod Story
 pub mod Accepts
+pub mod Way
 pub mod Due

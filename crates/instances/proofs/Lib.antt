@@ -3,6 +3,7 @@ pub mod Conditions
 pub mod Edits
 pub mod Numbers
 mod Rows
+mod Ways
 mod Demands
 mod Histories
 mod Reading

@@ -13,7 +13,7 @@ use Rattle.demands.specs.Due as due
 use Rattle.demands.proofs.Numbers.{due-number, number-due}
 use Rattle.instances.specs.Opened.{opened}
 use Rattle.instances.specs.Blocks.{two, broken, lone, caps, lend, A, B, C, AB, holding}
-use Rattle.instances.specs.Lines.{Line, line, Dues, Given, Byted, AllSpoken, _then_}
+use Rattle.instances.specs.Lines.{Line, line, Dues, Given, Byted, _then_}
 use Rattle.instances.proofs.Sounds.{two-holds, lone-holds, two-passed, lone-passed}
 use Rattle.instances.proofs.Conditions.{two-short, broken-unsound, two-full, lone-not-full, lone-lacks}
 
@@ -22,9 +22,9 @@ pub dues-given : (ls : List Line) → Byted ls → Dues ls → Given ls
 dues-given [] b d = tt
 dues-given (l ∷ ls) b d = (due-number (b .0) (d .0), dues-given ls (b .1) (d .1))
 
-pub given-dues : (ls : List Line) → AllSpoken ls → Byted ls → Given ls → Dues ls
-given-dues [] s b g = tt
-given-dues (l ∷ ls) s b g = (number-due (l .call) (l .lent) (l .number) (s .0) (b .0) (g .0), given-dues ls (s .1) (b .1) (g .1))
+pub given-dues : (ls : List Line) → Byted ls → Given ls → Dues ls
+given-dues [] b g = tt
+given-dues (l ∷ ls) b g = (number-due (l .call) (l .lent) (l .number) (b .0) (g .0), given-dues ls (b .1) (g .1))
 
 -- ── a line for each number ──
 abbrev table : List Line
@@ -44,16 +44,13 @@ table =
 byted : Byted table
 byted = tag-bytes A refl then tag-bytes C refl then tag-bytes (replicate 65 65) refl then tag-bytes AB refl then tag-bytes C refl then tag-bytes B refl then tt then tt then tt then tt then tt
 
-spoken : AllSpoken table
-spoken = two-sound then two-sound then tt then tt then tt then tt then tt then tt then tt then tt then tt
-
 -- ── the numbers by computing, and so the rows ──
 computed : Given table
 unfolding opened
 computed = refl then refl then refl then refl then refl then refl then refl then refl then refl then refl then tt
 
 by-number : Dues table
-by-number = given-dues table spoken byted computed
+by-number = given-dues table byted computed
 
 -- ── the rows by their conditions, and so the numbers ──
 dues : Dues table

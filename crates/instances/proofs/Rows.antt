@@ -1,4 +1,4 @@
--- Every row of the table `Due` is met by a call on a small block, so that none of its conditions is idle; and the call gives the row's number.
+-- Every row of the table `Due` is met by a call on a small block, so that none of its conditions is idle; and the call gives the row's number. The rows for what a walk meets are in `Ways`.
 use mathlib.Core.Path.{refl, ap}
 use mathlib.Core.List.{List, [], _∷_}
 use native.Mathlib.Omega.{arith}

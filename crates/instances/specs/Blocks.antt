@@ -69,6 +69,13 @@ overlong = block (set two-words 20 65) two-keys
 abbrev pub astray : Block
 astray = block (set two-words 22 21) two-keys
 
+-- its root reference names no record of the pool, or its record is its own child for A
+abbrev pub afar : Block
+afar = block (set two-words 42 9) two-keys
+
+abbrev pub ring : Block
+ring = block (set two-words 15 1) two-keys
+
 -- ── two leaves, and no inner record ──
 -- A, 7
 abbrev pub lone : Block

@@ -3,9 +3,9 @@ use Prim.Native.Nat.{ℕ}
 use mathlib.Core.Path.{_≡_}
 use mathlib.Core.List.{List, [], _∷_}
 use mathlib.Core.Option.{some}
-use Rattle.demands.specs.Calls.{Call, Slices, numberOf, run}
+use Rattle.demands.specs.Calls.{Call, Slices, number}
 use Rattle.demands.specs.Histories.{CallBytes}
-use Rattle.demands.specs.Due.{Due, Spoken}
+use Rattle.demands.specs.Due.{Due}
 
 pub record Line : Type 0 where
   pub call : Call
@@ -23,16 +23,12 @@ Dues (l ∷ ls) = Due (l .call) (l .lent) (l .number) × Dues ls
 -- each line's call gives its number
 abbrev pub Given : List Line → Type 0
 Given [] = Unit {0}
-Given (l ∷ ls) = (numberOf (run (l .call) (l .lent) .answer) ≡ some (l .number)) × Given ls
+Given (l ∷ ls) = (number (l .call) (l .lent) ≡ some (l .number)) × Given ls
 
--- the tags are bytes, and the table `Due` speaks of each call
+-- the tags are bytes
 abbrev pub Byted : List Line → Type 0
 Byted [] = Unit {0}
 Byted (l ∷ ls) = CallBytes (l .call) × Byted ls
-
-abbrev pub AllSpoken : List Line → Type 0
-AllSpoken [] = Unit {0}
-AllSpoken (l ∷ ls) = Spoken (l .call) (l .lent) × AllSpoken ls
 
 -- a proof for a line, and those for the lines after it
 infixr 5 _then_

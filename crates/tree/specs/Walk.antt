@@ -40,11 +40,15 @@ abbrev pub fits : Aim → List ℕ → List ℕ → Bool
 fits Exact given held = same given held
 fits Begin given held = begins held given
 
+-- the leaf's tag against the given one, from there on
+abbrev pub leafFits : List ℕ → List ℕ → List ℕ → Aim → ℕ → PrefixMatchBehavior → Bool
+leafFits rec key tag aim depth behavior =
+    let from = compareFrom (length tag) (getD rec 1 0) depth behavior in
+    fits aim (between tag from (length tag)) (between key from (getD rec 1 0))
+
 -- the leaf is found where it fits, else nothing is
 unfoldable pub leafAnswer : List ℕ → List ℕ → List ℕ → Aim → ℕ → ℕ → PrefixMatchBehavior → Found
-leafAnswer rec key tag aim n depth behavior =
-    let from = compareFrom (length tag) (getD rec 1 0) depth behavior in
-    choose (fits aim (between tag from (length tag)) (between key from (getD rec 1 0))) (leafFound n rec) Missing
+leafAnswer rec key tag aim n depth behavior = choose (leafFits rec key tag aim depth behavior) (leafFound n rec) Missing
 
 -- ── at an inner record ──
 -- past the prefix: the child for the next byte

@@ -1,0 +1,75 @@
+-- The walks on any block, by cases: the records that one comes to, and the number that it gives for what it meets there.
+use Prim.Native.Nat.{ℕ, suc, _+_}
+use mathlib.Core.Path.{_≡_}
+use mathlib.Core.Logic.{_≢_}
+use mathlib.Core.List.{List}
+use mathlib.Core.Bool.{true, false}
+use lib.ListN.{getD}
+use Rattle.prefix.specs.Match.{matchOf}
+use Rattle.prefix.specs.declared.lookup.PrefixMatchBehavior.{PrefixMatchBehavior}
+use Rattle.prefix.specs.declared.lookup.PrefixMatchBehavior.the-variants.{Pessimistic}
+use Rattle.prefix.specs.declared.lookup.PrefixMatch.{PrefixMatch}
+use Rattle.prefix.specs.declared.lookup.PrefixMatch.the-variants.{On, Off}
+use Rattle.frames.specs.Frame.{rootWord}
+use Rattle.frames.specs.Place.{placeAt, inPool, recordAt, keyAt}
+use Rattle.frames.specs.declared.frame.Frame.{Frame}
+use Rattle.records.specs.Own.{prefixAt, childAt}
+use Rattle.records.specs.View.{ruleAt}
+use Rattle.art.specs.Tags.{Tag}
+use Rattle.art.specs.Stores.{Place, leaf-place, inner-place}
+use Rattle.tree.specs.Walk.{leafFits}
+use Rattle.tree.specs.Edge.{edgeRef}
+use Rattle.tree.specs.declared.lookup.Aim.{Aim}
+use Rattle.tree.specs.declared.minmax.Edge.{Edge}
+
+-- ── arriving at a place, with so many inner records left on the path ──
+-- damage: no pool has the place, the record there breaks its own rule, or it is an inner record and none is left
+pub data Breaks (f : Frame) (words keys : List ℕ) : (left : ℕ) → Place → Type 0 where
+  outside : {left : ℕ} {x : Place} → inPool f x ≡ false → Breaks f words keys left x
+  own-rule : {left : ℕ} {x : Place} → ruleAt f words keys x ≡ false → Breaks f words keys left x
+  none-left : {k n : ℕ} → Breaks f words keys 0 (inner-place k n)
+
+-- else the record is one of a pool and obeys its rule
+pub record Stands (f : Frame) (words keys : List ℕ) (x : Place) : Type 0 where
+  pub pool : inPool f x ≡ true
+  pub rule : ruleAt f words keys x ≡ true
+
+-- ── search and prefix search ──
+-- the tag against the prefix of an inner record; the child for a byte of the tag
+abbrev pub matched : Frame → List ℕ → Tag → (k n depth : ℕ) → PrefixMatchBehavior → PrefixMatch
+matched f words t k n depth b = matchOf (prefixAt (f .form) (recordAt f words (inner-place k n))) t depth b
+
+abbrev pub childFor : Frame → List ℕ → Tag → (k n d : ℕ) → ℕ
+childFor f words t k n d = childAt (f .form) k (recordAt f words (inner-place k n)) (getD t d 0)
+
+-- the places that the walk comes to, each with its depth: the root's, then from each inner record whose prefix agrees to the child for the next byte
+pub data Comes (f : Frame) (words keys : List ℕ) (t : Tag) : (left : ℕ) → Place → (depth : ℕ) → PrefixMatchBehavior → Type 0 where
+  at-root : rootWord words ≢ 0 → Comes f words keys t (f .form .limit) (placeAt (rootWord words)) 0 Pessimistic
+  down : {left k n depth d : ℕ} {b b′ : PrefixMatchBehavior} → Comes f words keys t (suc left) (inner-place k n) depth b → Stands f words keys (inner-place k n)
+      → matched f words t k n depth b ≡ On d b′ → childFor f words t k n d ≢ 0 → Comes f words keys t left (placeAt (childFor f words t k n d)) (d + 1) b′
+
+-- 1 for no root; 6 for damage; 1 for a prefix that differs, for no child, for a leaf that does not fit; 0 for one that does
+pub data Meets (f : Frame) (words keys : List ℕ) (t : Tag) (aim : Aim) : ℕ → Type 0 where
+  no-root : rootWord words ≡ 0 → Meets f words keys t aim 1
+  damage : {left depth : ℕ} {x : Place} {b : PrefixMatchBehavior} → Comes f words keys t left x depth b → Breaks f words keys left x → Meets f words keys t aim 6
+  off-prefix : {left k n depth agreed : ℕ} {b : PrefixMatchBehavior} → Comes f words keys t (suc left) (inner-place k n) depth b → Stands f words keys (inner-place k n)
+      → matched f words t k n depth b ≡ Off agreed → Meets f words keys t aim 1
+  no-child : {left k n depth d : ℕ} {b b′ : PrefixMatchBehavior} → Comes f words keys t (suc left) (inner-place k n) depth b → Stands f words keys (inner-place k n)
+      → matched f words t k n depth b ≡ On d b′ → childFor f words t k n d ≡ 0 → Meets f words keys t aim 1
+  other-leaf : {left n depth : ℕ} {b : PrefixMatchBehavior} → Comes f words keys t left (leaf-place n) depth b → Stands f words keys (leaf-place n)
+      → leafFits (recordAt f words (leaf-place n)) (keyAt f keys n) t aim depth b ≡ false → Meets f words keys t aim 1
+  the-leaf : {left n depth : ℕ} {b : PrefixMatchBehavior} → Comes f words keys t left (leaf-place n) depth b → Stands f words keys (leaf-place n)
+      → leafFits (recordAt f words (leaf-place n)) (keyAt f keys n) t aim depth b ≡ true → Meets f words keys t aim 0
+
+-- ── minimum and maximum ──
+-- the root's place, then from each inner record that of its lowest or highest child
+pub data Descends (f : Frame) (words keys : List ℕ) (edge : Edge) : (left : ℕ) → Place → Type 0 where
+  root : rootWord words ≢ 0 → Descends f words keys edge (f .form .limit) (placeAt (rootWord words))
+  child : {left k n : ℕ} → Descends f words keys edge (suc left) (inner-place k n) → Stands f words keys (inner-place k n)
+      → Descends f words keys edge left (placeAt (edgeRef edge (f .form) k (recordAt f words (inner-place k n))))
+
+-- 1 for no root; 6 for damage; 0 for a leaf
+pub data Ends (f : Frame) (words keys : List ℕ) (edge : Edge) : ℕ → Type 0 where
+  rootless : rootWord words ≡ 0 → Ends f words keys edge 1
+  broken-off : {left : ℕ} {x : Place} → Descends f words keys edge left x → Breaks f words keys left x → Ends f words keys edge 6
+  a-leaf : {left n : ℕ} → Descends f words keys edge left (leaf-place n) → Stands f words keys (leaf-place n) → Ends f words keys edge 0
