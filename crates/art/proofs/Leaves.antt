@@ -128,7 +128,7 @@ module _ {A : Type 0} (number : A → ℕ) where
   numbers-under p [] = refl
   numbers-under p (e ∷ l) = ap (λ (r : List ℕ). number (e .1) ∷ r) (numbers-under p l)
 
-  numbers-append : (l m : Listing A) → numbers number (l ++ m) ≡ numbers number l ++ numbers number m
+  pub numbers-append : (l m : Listing A) → numbers number (l ++ m) ≡ numbers number l ++ numbers number m
   numbers-append [] m = refl
   numbers-append (e ∷ l) m = ap (λ (r : List ℕ). number (e .1) ∷ r) (numbers-append l m)
 

@@ -4,7 +4,7 @@ use mathlib.Core.Path.{_≡_, sym, ap, subst, _∙_}
 use mathlib.Core.List.{List}
 use mathlib.Core.Bool.{true}
 use native.Mathlib.Omega.{arith}
-use lib.ListN.{length, getD}
+use lib.ListN.{getD}
 use borrow.Author.Tests.{le-leb}
 use Rattle.lists.specs.Scan.{all, atMost}
 use Rattle.lists.proofs.Tests.{all-by}
@@ -23,7 +23,6 @@ use Rattle.writes.specs.declared.leaf_node.Gap.{Gap}
 use Rattle.delete.specs.Plan.{planOf}
 use Rattle.delete.specs.Apply.{goneWords}
 use Rattle.delete.specs.Delete.{Out, out, planned, PlanReady, deleteSound, deleteBy, deleteChecked, deleteOf}
-use Rattle.delete.specs.declared.answer.Deleted.{Deleted}
 use Rattle.delete.specs.declared.answer.Deleted.the-variants as deleted
 use Rattle.delete.specs.declared.plan.Cut.{Cut}
 use Rattle.delete.specs.declared.plan.Plan.{Plan}

@@ -7,6 +7,7 @@ use mathlib.Core.Option.{Option, none, some}
 use mathlib.Core.Bool.{true}
 use native.Mathlib.Omega.{arith}
 use lib.ListN.{length, take, length-append, length-take}
+use Rattle.states.proofs.OneCell.{used-pool}
 use Rattle.prefix.specs.Run.{held, mergeOf}
 use Rattle.frames.specs.Kind.{childrenOf}
 use Rattle.frames.specs.Place.{placeAt, refOf, inPool, recordAt}
@@ -34,7 +35,7 @@ use Rattle.states.specs.State.{State}
 use Rattle.delete.specs.declared.plan.Cut.{Cut}
 use Rattle.delete.specs.declared.plan.Cut.the-variants.{Root, Stay, Shrink, Merge}
 use Rattle.delete.specs.Apply.{joinedAt, merged, shrunk, pruned, JoinReady, CutReady}
-use Rattle.states.proofs.Steps.{state-pool, state-here, state-count-word, state-prefix-is, state-prefix-fits, state-child, state-byte, state-leaf, state-remove, state-prefix, state-drop, state-clear, state-root}
+use Rattle.states.proofs.Steps.{state-here, state-count-word, state-prefix-is, state-prefix-fits, state-child, state-byte, state-leaf, state-remove, state-prefix, state-drop, state-clear, state-root}
 use Rattle.delete.proofs.Unders.{Under, Left, cut-left, runLength, run-short}
 use Rattle.delete.proofs.Merges.{merge-full, merge-held, merge-fits}
 use Rattle.delete.proofs.Lefts.{cut-length, settle-many, settle-home}
@@ -124,7 +125,7 @@ module _ {f : Frame} {words keys : List ℕ} {σ : Store Held} {links : Links} {
   here-used = subst Used (sym (w .shown)) tt
 
   pool : inPool f x ≡ true
-  pool = state-pool s x here-used
+  pool = used-pool s x here-used
 
   place : placeAt ref ≡ x
   place = inner-here s ref here-used
@@ -270,7 +271,7 @@ module _ {f : Frame} {words keys : List ℕ} {σ : Store Held} {links : Links} {
     merge-done =
         let hm = stayHome in
         let apart : q ≢ x = λ e. near (ref % 8) (ref / 8) c q child-at (sym e) in
-        let pool′ : inPool f q ≡ true = state-pool s q (subst (λ (p : Place). Used (σ p)) (one .root-is) (shows-used (one .tree) (w .path ++ w .run ++ c ∷ []) σ (one .shows))) in
+        let pool′ : inPool f q ≡ true = used-pool s q (subst (λ (p : Place). Used (σ p)) (one .root-is) (shows-used (one .tree) (w .path ++ w .run ++ c ∷ []) σ (one .shows))) in
         let relink : art.relink-up σ above-up x q ≡ up-edits σ above-up q = relink-is σ above-up x q (λ e. apart (sym e)) in
         let edits : apply σ (art.delete-under σ hm above-up via-up) ≡ apply freed (up-edits σ above-up q) =
         ap (apply σ)

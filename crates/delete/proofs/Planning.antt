@@ -2,7 +2,7 @@
 use Prim.Native.Nat.{ℕ, _+_, _-_, _*_, _/_, _%_, _≤_, _<_}
 use mathlib.Core.Path.{_≡_, refl, sym, ap, _∙_}
 use mathlib.Core.List.{List}
-use mathlib.Core.Bool.{Bool, true, false}
+use mathlib.Core.Bool.{Bool}
 use native.Mathlib.Omega.{arith}
 use lib.ListN.{getD}
 use lib.Dec.{eqb, leb, ltb}
@@ -16,7 +16,7 @@ use Rattle.frames.specs.declared.kind.KindRow.{KindRow}
 use Rattle.frames.proofs.KindTable.{by-kind}
 use Rattle.records.specs.Row.{rowAt, entryAt, lastEntry}
 use Rattle.records.specs.declared.representation.Entry.{Entry}
-use Rattle.records.specs.declared.representation.Entry.the-variants.{Child, Nothing}
+use Rattle.records.specs.declared.representation.Entry.the-variants.{Child}
 use Rattle.art.specs.Stores.{Place, leaf-place}
 use Rattle.pools.specs.Pool.{lowestFree}
 use Rattle.points.specs.Point.{pointOf}

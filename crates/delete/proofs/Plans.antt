@@ -9,6 +9,7 @@ use native.Mathlib.Omega.{arith}
 use borrow.Author.Tests.{leb-true, leb-false, le-leb, ne-eqb}
 use lib.ListN.{length, getD}
 use lib.Dec.{leb, ltb}
+use Rattle.states.proofs.OneCell.{used-pool}
 use Rattle.lists.specs.Scan.{choose, all, atMost}
 use Rattle.lists.proofs.Tests.{and-both}
 use Rattle.frames.specs.Kind.{childrenOf, markOf, before}
@@ -45,7 +46,7 @@ use Rattle.points.specs.declared.insert_point.Point.the-variants.{Holds, Clash,
 use Rattle.writes.specs.declared.leaf_node.Gap.{Gap}
 use Rattle.pointed.specs.Told.{upTold, told}
 use Rattle.states.specs.State.{State}
-use Rattle.states.proofs.Steps.{state-pool, state-count-word, state-leaf, state-zero}
+use Rattle.states.proofs.Steps.{state-count-word, state-leaf, state-zero}
 use Rattle.states.proofs.Standing.{ref-some, stands}
 use Rattle.delete.specs.declared.plan.Cut.{Cut}
 use Rattle.delete.specs.declared.plan.Cut.the-variants.{Stay, Shrink}
@@ -83,7 +84,7 @@ module _ {f : Frame} {words keys : List ℕ} {σ : Store Held} {links : Links} {
   here-used = subst Used (sym (w .shown)) tt
 
   pool : inPool f x ≡ true
-  pool = state-pool s x here-used
+  pool = used-pool s x here-used
 
   stay-fits : 3 ≤ length rs → Fits (Stay ref b)
   stay-fits three = record { home = stayHome; roomy = λ k n l. inl refl; done = stay-done s near far o er upper ref b y w three }
@@ -218,6 +219,6 @@ module _ {f : Frame} {words keys : List ℕ} {links : Links} {rootRef size : ℕ
   plan-fits shown bytes =
       let there : told (pointOf f words keys tag (rootWord words)) ≡ pt =
       point-shown shown tag (tag-bytes tag bytes) (suc (height t)) deep ∙ ap (λ (τ : Store Held). art.point (suc (height t)) τ (root t) tag) (s .cells) in
-      let some-root : rootWord words ≡ 0 → ⊥ = λ e. omega (arith, ref-some (s .frame) (root t) (state-pool s (root t) (own t [])), e, s .root-is, er) in
+      let some-root : rootWord words ≡ 0 → ⊥ = λ e. omega (arith, ref-some (s .frame) (root t) (used-pool s (root t) (own t [])), e, s .root-is, er) in
       let here = pointOf f words keys tag (rootWord words) in
       subst (λ (b : Bool). PlanFits f words keys tag t links size (choose b plan.Missing (pointPlan f words here))) (sym (ne-eqb (rootWord words) 0 some-root)) (point-plan here there)

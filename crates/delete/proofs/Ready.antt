@@ -6,6 +6,7 @@ use mathlib.Core.Option.{Option, none, some}
 use mathlib.Core.Bool.{true}
 use native.Mathlib.Omega.{arith}
 use lib.ListN.{length}
+use Rattle.states.proofs.OneCell.{used-pool}
 use Rattle.lists.specs.Scan.{all, atMost}
 use Rattle.frames.specs.Frame.{rootWord, frame}
 use Rattle.frames.specs.Place.{inPool}
@@ -25,7 +26,6 @@ use Rattle.whole.specs.Sound.{Sound}
 use Rattle.pointed.proofs.Sounds.{sound-shown}
 use Rattle.writes.specs.declared.leaf_node.Gap.{Gap}
 use Rattle.states.specs.State.{State}
-use Rattle.states.proofs.Steps.{state-pool}
 use Rattle.states.proofs.Sounds.{sound-state}
 use Rattle.delete.specs.declared.plan.Cut.{Cut}
 use Rattle.delete.specs.declared.plan.Plan.the-variants.{Take}
@@ -48,7 +48,7 @@ module _ (words keys tag : List ℕ) (cut : Cut) (n : ℕ) (gap : Gap) where
       → SoundFits words keys tag d (Take cut n gap) → TakeReady f words cut n gap
   ready-of none shown s h = absurd h
   ready-of (some t) shown s o =
-      let pool : inPool f (leaf-place n) ≡ true = state-pool s (leaf-place n) (subst Used (sym (o .leaf-is)) tt) in
+      let pool : inPool f (leaf-place n) ≡ true = used-pool s (leaf-place n) (subst Used (sym (o .leaf-is)) tt) in
       let ends = ends-used shown tag (o .held) (o .found) in
       let gaps = gap-links f words n pool in
       let previous : gap .previous ≡ linksOf f words .prev (o .held .number) = ap (λ (g : Gap). g .previous) (o .gap-is) ∙ gaps .0 ∙ ap (linksOf f words .prev) (sym (o .number-is)) in

@@ -6,6 +6,7 @@ use mathlib.Core.Option.{Option, none, some}
 use mathlib.Core.Bool.{true}
 use native.Mathlib.Omega.{arith}
 use lib.ListN.{length}
+use Rattle.states.proofs.OneCell.{used-pool}
 use Rattle.lists.specs.Scan.{all, atMost}
 use Rattle.frames.specs.Frame.{FrameOf, rootWord, countWord, frame}
 use Rattle.frames.specs.Place.{inPool}
@@ -34,7 +35,7 @@ use Rattle.pointed.proofs.Neighbours.{numberOf, numbered}
 use Rattle.writes.specs.Leaf.{leafOut, keyOut}
 use Rattle.writes.specs.declared.leaf_node.Gap.{Gap}
 use Rattle.states.specs.State.{State}
-use Rattle.states.proofs.Steps.{state-pool, state-leaf-out, state-count}
+use Rattle.states.proofs.Steps.{state-leaf-out, state-count}
 use Rattle.states.proofs.Standing.{kept-end}
 use Rattle.states.proofs.Sounds.{sound-state, state-sound}
 use Rattle.delete.specs.declared.plan.Cut.{Cut}
@@ -76,7 +77,7 @@ module _ (words keys tag : List ℕ) (cut : Cut) (n : ℕ) (gap : Gap) (t : Tree
   deep = omega arith
 
   pool : inPool f (leaf-place n) ≡ true
-  pool = state-pool s (leaf-place n) (subst Used (sym (o .leaf-is)) tt)
+  pool = used-pool s (leaf-place n) (subst Used (sym (o .leaf-is)) tt)
 
   ends : UsedOrEnd f words keys (links .prev n) × UsedOrEnd f words keys (links .next n)
   ends = subst (λ (m : ℕ). UsedOrEnd f words keys (links .prev m) × UsedOrEnd f words keys (links .next m)) (o .number-is) (ends-used shown tag (o .held) (o .found))

@@ -1,13 +1,17 @@
 -- Insert and delete by cases: a refusal, which hands the words and key bytes back, or a plan on a block that the check found sound.
 use Prim.Native.Nat.{ℕ, _≤_}
-use mathlib.Core.Path.{_≡_, refl}
+use mathlib.Core.Path.{_≡_, refl, ap}
 use mathlib.Core.List.{List}
 use mathlib.Core.Bool.{Bool, true, false}
+use native.Mathlib.Omega.{arith}
 use lib.ListN.{length}
 use lib.Dec.{ltb}
 use borrow.Author.Tests.{ltb-false}
 use Rattle.lists.specs.Scan.{choose}
 use Rattle.frames.specs.Form.{formOf}
+use Rattle.pools.specs.Start.{startNumber}
+use Rattle.pools.specs.declared.start.Started.{Started}
+use Rattle.pools.specs.declared.start.Started.the-variants as started
 use Rattle.whole.specs.Check as check-call
 use Rattle.whole.specs.Check.{checkOf}
 use Rattle.frames.specs.Frame.{frame}
@@ -38,6 +42,10 @@ use Rattle.demands.specs.Histories.{nothing, insertChange, deleteChange}
 pub either : {A : Type 0} (P : A → Type 0) (b : Bool) (x y : A) → P x → P y → P (choose b x y)
 either P true x y h k = h
 either P false x y h k = k
+
+-- a refused start is not a done one
+pub refused-done : _≡_ {A = Started} started.Refused started.Done → ⊥
+refused-done e = let z : _≡_ {A = ℕ} 8 0 = ap startNumber e in omega arith
 
 -- ── insert ──
 module _ (words keys tag : List ℕ) (total : ℕ) (P : insert-call.Out → Type 0) where

@@ -1,11 +1,10 @@
 -- Only start writes the words of the frame: an accepted insert or delete leaves a sound block in the same frame, and any other call leaves its words.
 use Prim.Native.Nat.{ℕ, _≤_}
-use mathlib.Core.Path.{_≡_, refl, sym, ap, subst, _∙_}
+use mathlib.Core.Path.{refl, sym, subst, _∙_}
 use mathlib.Core.List.{List, [], _∷_}
 use lib.ListN.{length}
 use Rattle.frames.specs.Frame.{frame}
 use Rattle.reading.specs.Answers.{Bytes}
-use Rattle.whole.specs.Sound.{Sound}
 use Rattle.insert.specs.Insert as insert-call
 use Rattle.delete.specs.Delete as delete-call
 use Rattle.demands.specs.Calls.{Call, start, search, prefix-search, minimum, maximum, next-leaf, leaf-facts, leaf-tag, check, first-at-or-after, insert, delete, Slices, run}

@@ -1,8 +1,7 @@
 -- Key bytes stay bytes: a call leaves them, or writes zeros or a tag of bytes.
 use Prim.Native.Nat.{ℕ, _+_, _*_}
-use mathlib.Core.Path.{_≡_, refl, ap}
+use mathlib.Core.Path.{_≡_, refl}
 use mathlib.Core.List.{List}
-use native.Mathlib.Omega.{arith}
 use lib.ListN.{length, replicate}
 use Rattle.lists.specs.Scan.{atMost}
 use Rattle.lists.proofs.Tests.{all-replicate}
@@ -12,7 +11,6 @@ use Rattle.frames.specs.declared.frame.Caps.{Caps}
 use Rattle.frames.specs.declared.frame.Frame.{Frame}
 use Rattle.pools.specs.Start as start-call
 use Rattle.pools.specs.Start.{startFits, startOf}
-use Rattle.pools.specs.declared.start.Started.{Started}
 use Rattle.pools.specs.declared.start.Started.the-variants as started
 use Rattle.reading.specs.Answers.{Bytes}
 use Rattle.frames.specs.Frame.{frame}
@@ -22,7 +20,7 @@ use Rattle.insert.proofs.Ready.{bytes-all}
 use Rattle.insert.proofs.KeyBytes.{key-in-bytes}
 use Rattle.demands.specs.Calls.{Call, start, search, prefix-search, minimum, maximum, next-leaf, leaf-facts, leaf-tag, check, first-at-or-after, insert, delete, Slices, run}
 use Rattle.demands.specs.Histories.{Block, Turn, next, CallBytes}
-use Rattle.demands.proofs.Cases.{either, insert-cases, delete-cases}
+use Rattle.demands.proofs.Cases.{either, refused-done, insert-cases, delete-cases}
 
 zeros-bytes : (n : ℕ) → Bytes (replicate n 0)
 zeros-bytes n = tag-bytes (replicate n 0) (all-replicate (atMost 255) n 0 refl)
@@ -34,9 +32,6 @@ key-out-bytes f n keys k =
     tag-bytes (keyOut f n keys) (splice-all (atMost 255) keys (n * limit) (n * limit + limit) (replicate limit 0) (bytes-all keys k) (all-replicate (atMost 255) limit 0 refl))
 
 -- ── the calls ──
-not-done : _≡_ {A = Started} started.Refused started.Done → ⊥
-not-done e = let z : _≡_ {A = ℕ} 8 0 = ap start-call.startNumber e in omega arith
-
 start-by : (words keys : List ℕ) (c : Caps) → Bytes keys → Bytes (startOf words keys c .keys)
 unfolding startOf
 start-by words keys c k = either (λ (o : start-call.Out). Bytes (o .keys)) (startFits (formOf 1) c (length words) (length keys)) _ _ (zeros-bytes (length keys)) k
@@ -45,7 +40,7 @@ start-by words keys c k = either (λ (o : start-call.Out). Bytes (o .keys)) (sta
 pub start-bytes : (words keys : List ℕ) (c : Caps) → startOf words keys c .answer ≡ started.Done → Bytes (startOf words keys c .keys)
 unfolding startOf
 start-bytes words keys c =
-    either (λ (o : start-call.Out). o .answer ≡ started.Done → Bytes (o .keys)) (startFits (formOf 1) c (length words) (length keys)) _ _ (λ e. zeros-bytes (length keys)) (λ e. absurd (not-done e))
+    either (λ (o : start-call.Out). o .answer ≡ started.Done → Bytes (o .keys)) (startFits (formOf 1) c (length words) (length keys)) _ _ (λ e. zeros-bytes (length keys)) (λ e. absurd (refused-done e))
 
 bytes-by : (c : Call) (s : Slices) → Bytes (s .keys) → CallBytes c → Bytes (run c s .slices .keys)
 bytes-by (start c) s k h = start-by (s .words) (s .keys) c k

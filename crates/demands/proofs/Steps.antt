@@ -38,7 +38,7 @@ use Rattle.delete.specs.Delete as delete-call
 use Rattle.demands.specs.Calls.{Call, start, search, prefix-search, minimum, maximum, next-leaf, leaf-facts, leaf-tag, check, first-at-or-after, insert, delete, Slices, run}
 use Rattle.demands.specs.Histories.{Block, Turn, lent, next, Change, nothing, startChange, insertChange, deleteChange, changeOf, totals, told, counted, CallBytes}
 use Rattle.demands.proofs.Changes.{frame-limit, insert-sound, over-sound, delete-held, delete-sound}
-use Rattle.demands.proofs.Cases.{insert-cases, delete-cases}
+use Rattle.demands.proofs.Cases.{refused-done, insert-cases, delete-cases}
 use Rattle.demands.proofs.Totals.{total-of, totals-sorted, totals-put, totals-alter, totals-lookup}
 
 -- what a sound block holds is sorted
@@ -70,9 +70,6 @@ empty-sound {f} {words} {keys} e = state-sound none shown tt tt refl ends refl
 pub start-sound : (words keys : List ℕ) (c : Caps) → startOf words keys c .answer ≡ started.Done → let o = startOf words keys c in (s : Sound (o .words) (o .keys)) × (s .tree ≡ none)
 start-sound words keys c done = go (startFits (formOf 1) c (length words) (length keys)) refl
   where
-    refused-done : _≡_ {A = Started} started.Refused started.Done → ⊥
-    refused-done z = let k : _≡_ {A = ℕ} 8 0 = ap start-call.startNumber z in omega arith
-
     go : (b : Bool) → startFits (formOf 1) c (length words) (length keys) ≡ b → let o = startOf words keys c in (s : Sound (o .words) (o .keys)) × (s .tree ≡ none)
     go true e = empty-sound (start-empty words keys c e)
     go false e = let z : _≡_ {A = Started} started.Refused started.Done = ap (λ (o : start-call.Out). o .answer) (sym (start-refused words keys c e)) ∙ done in absurd (refused-done z)

@@ -18,9 +18,10 @@ use Rattle.records.proofs.Rows.{spread-length}
 use Rattle.records.proofs.RowRules.{filled-climbs, filled-length}
 use Rattle.edits.specs.Body.{sortedAdd, sortedRemove, sortedReplace, slotAdd, slotRemove, slotReplace, bodyAdd, bodyRemove, bodyReplace, rowSpread, sortedSpread, slotSpread, bodySpread, sortedBody, slotBody, bodyOf}
 use Rattle.edits.specs.Rows.{Row, rowInsert, rowRemove, rowReplace}
+use Rattle.edits.proofs.Columns.{tab-length}
 use Rattle.edits.proofs.Shown.{Laid, by-layout, Holds, holds-laid, laid, holds-size, holds-climbs, holds-child}
 use Rattle.edits.proofs.SortedBodies.{sorted-built, sorted-add, sorted-remove, sorted-replace}
-use Rattle.edits.proofs.TableBodies.{tab-length, direct-shown, direct-built, direct-add, direct-remove, direct-replace, spread-row}
+use Rattle.edits.proofs.TableBodies.{direct-shown, direct-built, direct-add, direct-remove, direct-replace, spread-row}
 use Rattle.edits.proofs.SlotBodies.{indirect-built, indirect-add, indirect-remove, indirect-replace}
 
 -- by the two tests of the kind

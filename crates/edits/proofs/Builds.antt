@@ -2,7 +2,6 @@
 use Prim.Native.Nat.{ℕ, suc, _+_, _≤_, _<_}
 use mathlib.Core.Path.{_≡_, refl, sym, ap, ap₂, _∙_}
 use mathlib.Core.List.{List, [], _∷_, _++_}
-use mathlib.Core.Bool.{Bool, true, false}
 use native.Mathlib.Omega.{arith}
 use lib.ListN.{length, getD, set, replicate, length-set, length-replicate}
 use lib.Seq.{set-append-left}
@@ -10,30 +9,19 @@ use lib.Dec.{lit≤}
 use borrow.Author.Tests.{eq-eqb}
 use Rattle.lists.specs.Scan.{nonzero, count, atMost}
 use Rattle.lists.specs.Part.{between, splice}
-use Rattle.lists.proofs.Scans.{pick}
 use Rattle.lists.proofs.Tests.{all-zero, all-between, zeros-all, count-le}
 use Rattle.lists.proofs.Parts.{between-length}
 use Rattle.prefix.specs.declared.Prefix.{Prefix}
 use Rattle.frames.specs.Kind.{kindRow, bodyWords}
 use Rattle.frames.specs.Form.{header, recordWords}
 use Rattle.records.specs.Own.{bodyOk, directOk, BodyFits, childOf}
-use Rattle.records.specs.Row.{filled, directRow, bodyRow, refFor}
+use Rattle.records.specs.Row.{directRow, bodyRow, refFor}
 use Rattle.frames.specs.declared.form.Form.{Form}
-use Rattle.records.proofs.Rows.{filled-skips, filled-holds}
-use Rattle.records.proofs.RowRules.{body-row}
+use Rattle.records.proofs.RowRules.{body-row, filled-length}
 use Rattle.edits.specs.Head.{setPrefix, setHead}
 use Rattle.edits.specs.Body.{tab, rowSpread, bodyOf}
 use Rattle.edits.specs.Record.{buildRec}
 use Rattle.lists.proofs.Pieces.{zeros-then, splice-left}
-
--- as many children as references
-filled-length : (b : ℕ) (l : List ℕ) → length (filled b l) ≡ count nonzero l
-filled-length b [] = refl
-filled-length b (x ∷ xs) = go (nonzero x) refl (filled-length (suc b) xs)
-  where
-    go : (t : Bool) → nonzero x ≡ t → length (filled (suc b) xs) ≡ count nonzero xs → length (filled b (x ∷ xs)) ≡ pick t (suc (count nonzero xs)) (count nonzero xs)
-    go true e ih = ap length (filled-holds b x xs e) ∙ ap suc ih
-    go false e ih = ap length (filled-skips b x xs e) ∙ ih
 
 -- a head is written within its own words
 head-left : (form : Form) → form .prefix ≡ 8 → (kind n : ℕ) (p : Prefix) (x y : List ℕ) → header form ≤ length x

@@ -5,7 +5,7 @@ use mathlib.Core.List.{List, [], _∷_, _++_, append-assoc, append-nil}
 use mathlib.Core.Bool.{Bool, true, false}
 use native.Mathlib.Numerals.{add-one}
 use native.Mathlib.Omega.{arith}
-use lib.ListN.{length, getD, take, set, replicate, length-append, length-replicate, length-set, replicate-append-replicate}
+use lib.ListN.{length, getD, take, set, replicate, length-append, length-set, replicate-append-replicate}
 use lib.Seq.{take-suc, take-all, length-take-le, set-append-left, set-at}
 use lib.Dec.{eqb, ltb}
 use borrow.Author.Tests.{eqb-true, eqb-false, eq-eqb, ne-eqb, lt-ltb, ltb-true}
@@ -13,9 +13,10 @@ use Rattle.lists.specs.Scan.{choose, nonzero, all, count}
 use Rattle.lists.proofs.Scans.{Count, count-start, count-on, count-off}
 use Rattle.lists.proofs.Tests.{both, and-both}
 use Rattle.records.specs.Row.{filled, refFor}
-use Rattle.records.proofs.Rows.{case, filled-skips, filled-holds}
+use Rattle.records.proofs.Rows.{filled-skips, filled-holds}
 use Rattle.lists.specs.Edit.{padded}
 use Rattle.edits.specs.Body.{tab, rowSpread, bytesOf, refsOf, slotFor, sortedBody, slotBody, sortedPut, slotPut}
+use Rattle.edits.proofs.Columns.{bytes-length, refs-length, padded-length, tab-as, tab-length}
 
 abbrev Pairs : Type 0
 Pairs = List (ℕ × ℕ)
@@ -41,19 +42,11 @@ refs-more : (row : Pairs) (b r : ℕ) → refsOf (more row b r) ≡ refsOf row +
 refs-more [] b r = refl
 refs-more (e ∷ es) b r = ap (λ (l : List ℕ). e .1 ∷ l) (refs-more es b r)
 
-bytes-length : (row : Pairs) → length (bytesOf row) ≡ length row
-bytes-length [] = refl
-bytes-length (e ∷ es) = ap suc (bytes-length es)
-
-refs-length : (row : Pairs) → length (refsOf row) ≡ length row
-refs-length [] = refl
-refs-length (e ∷ es) = ap suc (refs-length es)
-
 -- ---- the reference and the slot for a byte
 ref-more : (row : Pairs) (b r j : ℕ) → Under b row → refFor j (more row b r) ≡ choose (eqb b j) r (refFor j row)
 ref-more [] b r j u = go (eqb b j)
   where
-    go : (t : Bool) → case t r 0 ≡ choose t r 0
+    go : (t : Bool) → choose t r 0 ≡ choose t r 0
     go true = refl
     go false = refl
 ref-more (e ∷ es) b r j u =
@@ -61,14 +54,14 @@ ref-more (e ∷ es) b r j u =
     go (eqb (e .0) j) refl (ltb-true _ _ (p .0)) (ref-more es b r j (p .1))
   where
     go : (t : Bool) → eqb (e .0) j ≡ t → e .0 < b → refFor j (more es b r) ≡ choose (eqb b j) r (refFor j es)
-        → case t (e .1) (refFor j (more es b r)) ≡ choose (eqb b j) r (case t (e .1) (refFor j es))
+        → choose t (e .1) (refFor j (more es b r)) ≡ choose (eqb b j) r (choose t (e .1) (refFor j es))
     go true q l ih = let w : e .0 ≡ j = eqb-true _ _ q in ap (λ (t : Bool). choose t r (e .1)) (sym (ne-eqb b j (λ z. omega arith)))
     go false q l ih = ih
 
 slot-more : (row : Pairs) (b r j : ℕ) → Under b row → slotFor j (more row b r) ≡ choose (eqb b j) (length row + 1) (slotFor j row)
 slot-more [] b r j u = go (eqb b j)
   where
-    go : (t : Bool) → case {A = ℕ} t 1 0 ≡ choose t 1 0
+    go : (t : Bool) → choose {A = ℕ} t 1 0 ≡ choose t 1 0
     go true = refl
     go false = refl
 slot-more (e ∷ es) b r j u =
@@ -80,19 +73,11 @@ slot-more (e ∷ es) b r j u =
     later false s h = ap next h
 
     go : (t : Bool) → eqb (e .0) j ≡ t → e .0 < b → slotFor j (more es b r) ≡ choose (eqb b j) (length es + 1) (slotFor j es)
-        → case {A = ℕ} t 1 (next (slotFor j (more es b r))) ≡ choose (eqb b j) (suc (length es) + 1) (case t 1 (next (slotFor j es)))
+        → choose {A = ℕ} t 1 (next (slotFor j (more es b r))) ≡ choose (eqb b j) (suc (length es) + 1) (choose t 1 (next (slotFor j es)))
     go true q l ih = let w : e .0 ≡ j = eqb-true _ _ q in ap (λ (t : Bool). choose t (suc (length es) + 1) 1) (sym (ne-eqb b j (λ z. omega arith)))
     go false q l ih = later (eqb b j) (slotFor j (more es b r)) ih
 
 -- ---- a table with one number changed
-tab-as : (m b : ℕ) (g h : ℕ → ℕ) → ((i : ℕ) → b ≤ i → g i ≡ h i) → tab m b g ≡ tab m b h
-tab-as zero b g h e = refl
-tab-as (suc m) b g h e = ap₂ (λ (x : ℕ) (l : List ℕ). x ∷ l) (e b (omega arith)) (tab-as m (suc b) g h (λ i l. e i (omega arith)))
-
-tab-length : (m b : ℕ) (g : ℕ → ℕ) → length (tab m b g) ≡ m
-tab-length zero b g = refl
-tab-length (suc m) b g = ap suc (tab-length m (suc b) g)
-
 tab-put : (m b i v : ℕ) (g h : ℕ → ℕ) → h (b + i) ≡ v → ((j : ℕ) → (j ≡ b + i → ⊥) → h j ≡ g j) → tab m b h ≡ set (tab m b g) i v
 tab-put zero b i v g h e o = refl
 tab-put (suc m) b zero v g h e o =
@@ -115,9 +100,6 @@ spread-more row b r u = tab-more b r (λ j. refFor j row) (λ j. refFor j (more 
 set-right : (xs ys : List ℕ) (i v : ℕ) → set (xs ++ ys) (length xs + i) v ≡ xs ++ set ys i v
 set-right [] ys i v = ap (λ (n : ℕ). set ys n v) (let q : 0 + i ≡ i = omega arith in q)
 set-right (x ∷ xs) ys i v = ap (λ (n : ℕ). set (x ∷ (xs ++ ys)) n v) (let q : suc (length xs) + i ≡ suc (length xs + i) = omega arith in q) ∙ ap (λ (l : List ℕ). x ∷ l) (set-right xs ys i v)
-
-padded-length : (k : ℕ) (l : List ℕ) → length l ≤ k → length (padded k l) ≡ k
-padded-length k l h = omega (arith, length-append l (replicate (k - length l) 0), length-replicate {A = ℕ} (k - length l) 0)
 
 padded-more : (k : ℕ) (l : List ℕ) (v n : ℕ) → length l ≡ n → n < k → padded k (l ++ (v ∷ [])) ≡ set (padded k l) n v
 padded-more k l v n e h =
@@ -168,8 +150,8 @@ filled-end b [] r = ap (λ (n : ℕ). filled n (r ∷ [])) (let q : b ≡ b + 0 
 filled-end b (x ∷ xs) r = go (eqb x 0) (filled-end (suc b) xs r ∙ ap (λ (n : ℕ). filled (suc b) xs ++ filled n (r ∷ [])) (let q : suc b + length xs ≡ b + suc (length xs) = omega arith in q))
   where
     go : (t : Bool) → filled (suc b) (xs ++ (r ∷ [])) ≡ filled (suc b) xs ++ filled (b + suc (length xs)) (r ∷ [])
-        → case t (filled (suc b) (xs ++ (r ∷ []))) ((b, x) ∷ filled (suc b) (xs ++ (r ∷ [])))
-        ≡ case t (filled (suc b) xs) ((b, x) ∷ filled (suc b) xs) ++ filled (b + suc (length xs)) (r ∷ [])
+        → choose t (filled (suc b) (xs ++ (r ∷ []))) ((b, x) ∷ filled (suc b) (xs ++ (r ∷ [])))
+        ≡ choose t (filled (suc b) xs) ((b, x) ∷ filled (suc b) xs) ++ filled (b + suc (length xs)) (r ∷ [])
     go true ih = ih
     go false ih = ap (λ (l : Pairs). (b, x) ∷ l) ih
 
@@ -177,7 +159,7 @@ filled-under : (b : ℕ) (l : List ℕ) (e : ℕ) → b + length l ≤ e → Und
 filled-under b [] e h = refl
 filled-under b (x ∷ xs) e h = go (eqb x 0) (filled-under (suc b) xs e (omega arith))
   where
-    go : (t : Bool) → Under e (filled (suc b) xs) → Under e (case t (filled (suc b) xs) ((b, x) ∷ filled (suc b) xs))
+    go : (t : Bool) → Under e (filled (suc b) xs) → Under e (choose t (filled (suc b) xs) ((b, x) ∷ filled (suc b) xs))
     go true ih = ih
     go false ih = and-both (lt-ltb b e (omega arith)) ih
 

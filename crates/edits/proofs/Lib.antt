@@ -1,3 +1,4 @@
+pub mod Columns
 pub mod Fills
 pub mod Spreads
 pub mod Rooms

@@ -9,8 +9,7 @@ use native.Mathlib.Decide.{ℕ-discrete}
 use native.Mathlib.Omega.{arith}
 use lib.ListN.{length, getD, set}
 use borrow.Author.Tests.{eq-eqb, ne-eqb, lt-ltb}
-use Rattle.lists.specs.Scan.{nonzero}
-use Rattle.lists.proofs.Scans.{pick}
+use Rattle.lists.specs.Scan.{choose, nonzero}
 use Rattle.frames.specs.Place.{placeAt}
 use Rattle.records.specs.Row.{filled, refFor, Climbs}
 use Rattle.records.specs.View.{places}
@@ -23,11 +22,11 @@ use Rattle.edits.specs.Rows.{Row, rowInsertBy, rowInsert, rowPair, rowRe
 
 -- a row whose front child is for another byte
 pub refs-later : (b : ℕ) (e : ℕ × ℕ) (es : Row) → (b ≡ e .0 → ⊥) → refFor b (e ∷ es) ≡ refFor b es
-refs-later b e es n = ap (λ (t : Bool). pick t (e .1) (refFor b es)) (ne-eqb (e .0) b (λ q. n (sym q)))
+refs-later b e es n = ap (λ (t : Bool). choose t (e .1) (refFor b es)) (ne-eqb (e .0) b (λ q. n (sym q)))
 
 -- a front child for b that is no child for b
 not-front : (b : ℕ) (e : ℕ × ℕ) (es : Row) → 0 < e .1 → refFor b (e ∷ es) ≡ 0 → b ≡ e .0 → ⊥
-not-front b e es h z q = omega (arith, ap (λ (t : Bool). pick t (e .1) (refFor b es)) (eq-eqb (e .0) b (sym q)))
+not-front b e es h z q = omega (arith, ap (λ (t : Bool). choose t (e .1) (refFor b es)) (eq-eqb (e .0) b (sym q)))
 
 -- ---- one more
 module _ (b r : ℕ) where

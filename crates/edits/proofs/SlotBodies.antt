@@ -12,7 +12,6 @@ use lib.Dec.{eqb, ltb, leb·suc-suc}
 use borrow.Author.Tests.{eq-eqb, ne-eqb, eqb-true, eqb-false, lt-ltb, le-ltb, ltb-true, ltb-false, le-leb, leb-true}
 use Rattle.lists.specs.Scan.{choose, is, atMost, nonzero, all, first, count}
 use Rattle.lists.specs.Part.{between}
-use Rattle.lists.proofs.Scans.{pick}
 use Rattle.lists.proofs.Tests.{and-both, all-at, all-by, all-set, first-le, first-passes, first-none, count-append, count-all, count-none}
 use Rattle.lists.proofs.Parts.{between-length, between-at, between-middle, between-set-before, between-set-after, between-set-in}
 use Rattle.frames.specs.Kind.{kindRow}
@@ -24,10 +23,11 @@ use Rattle.records.proofs.Rows.{spread-length, spread-at}
 use Rattle.lists.specs.Edit.{padded}
 use Rattle.edits.specs.Body.{slotAdd, slotRemove, slotReplace, tab, refsOf, slotFor, slotBody}
 use Rattle.edits.specs.Rows.{Row, rowInsert, rowRemove, rowReplace}
+use Rattle.edits.proofs.Columns.{refs-length, padded-length, tab-as, tab-length}
 use Rattle.edits.proofs.RowChanges.{table-insert, table-remove, table-replace}
 use Rattle.edits.proofs.Shown.{Indirect}
-use Rattle.edits.proofs.SortedBodies.{refs-length, refs-nonzero, padded-length}
-use Rattle.edits.proofs.TableBodies.{tab-as, tab-length, tab-all, spread-row}
+use Rattle.edits.proofs.SortedBodies.{refs-nonzero}
+use Rattle.edits.proofs.TableBodies.{tab-all, spread-row}
 
 -- 1 or 0
 abbrev bit : Bool → ℕ
@@ -38,7 +38,7 @@ count-set : (p : ℕ → Bool) (l : List ℕ) (i x : ℕ) → i < length l → c
 count-set p [] i x h = absurd (omega arith)
 count-set p (y ∷ ys) zero x h = go (p x) (p y)
   where
-    go : (a b : Bool) → pick a (suc (count p ys)) (count p ys) + bit b ≡ pick b (suc (count p ys)) (count p ys) + bit a
+    go : (a b : Bool) → choose a (suc (count p ys)) (count p ys) + bit b ≡ choose b (suc (count p ys)) (count p ys) + bit a
     go true true = refl
     go true false = omega arith
     go false true = omega arith
@@ -46,7 +46,7 @@ count-set p (y ∷ ys) zero x h = go (p x) (p y)
 count-set p (y ∷ ys) (suc i) x h = go (p y) (count-set p ys i x (omega arith))
   where
     go : (b : Bool) → count p (set ys i x) + bit (p (getD ys i 0)) ≡ count p ys + bit (p x)
-        → pick b (suc (count p (set ys i x))) (count p (set ys i x)) + bit (p (getD ys i 0)) ≡ pick b (suc (count p ys)) (count p ys) + bit (p x)
+        → choose b (suc (count p (set ys i x))) (count p (set ys i x)) + bit (p (getD ys i 0)) ≡ choose b (suc (count p ys)) (count p ys) + bit (p x)
     go true e = omega arith
     go false e = e
 
@@ -282,7 +282,7 @@ abbrev shift : ℕ → ℕ
 shift s = choose (eqb s 0) 0 (suc s)
 
 slot-later : (b : ℕ) (e : ℕ × ℕ) (es : Row) → (e .0 ≡ b → ⊥) → slotFor b (e ∷ es) ≡ shift (slotFor b es)
-slot-later b e es n = ap (λ (t : Bool). pick t 1 (shift (slotFor b es))) (ne-eqb (e .0) b n)
+slot-later b e es n = ap (λ (t : Bool). choose t 1 (shift (slotFor b es))) (ne-eqb (e .0) b n)
 
 slot-none : (b lo : ℕ) (row : Row) → Climbs lo row → b < lo → slotFor b row ≡ 0
 slot-none b lo [] c h = refl
@@ -293,7 +293,7 @@ slot-ref b [] z = refl
 slot-ref b (e ∷ es) z = go (eqb (e .0) b) (slotFor b es) (eqb (slotFor b es) 0) refl (slot-ref b es z)
   where
     go : (t : Bool) (s : ℕ) (u : Bool) → eqb s 0 ≡ u → choose u 0 (getD (refsOf es ++ z) (s - 1) 0) ≡ refFor b es
-        → byslot (e .1 ∷ (refsOf es ++ z)) (pick t 1 (choose u 0 (suc s))) ≡ pick t (e .1) (refFor b es)
+        → byslot (e .1 ∷ (refsOf es ++ z)) (choose t 1 (choose u 0 (suc s))) ≡ choose t (e .1) (refFor b es)
     go true s u i ih = refl
     go false s true i ih = ih
     go false s false i ih =
@@ -306,7 +306,7 @@ slot-small : (b : ℕ) (row : Row) → slotFor b row ≤ length row
 slot-small b [] = omega arith
 slot-small b (e ∷ es) = go (eqb (e .0) b) (slotFor b es) (eqb (slotFor b es) 0) (slot-small b es)
   where
-    go : (t : Bool) (s : ℕ) (u : Bool) → s ≤ length es → pick t 1 (choose u 0 (suc s)) ≤ suc (length es)
+    go : (t : Bool) (s : ℕ) (u : Bool) → s ≤ length es → choose t 1 (choose u 0 (suc s)) ≤ suc (length es)
     go true s u h = omega arith
     go false s true h = omega arith
     go false s false h = omega arith
@@ -318,7 +318,7 @@ spread-tab refs (suc m) b g = ap (λ (l : List ℕ). byslot refs (g b) ∷ l) (s
 -- each place of the row is named once
 count-shift : (i m b : ℕ) (g : ℕ → ℕ) → count (is (suc i + 1)) (tab m b (λ j. shift (g j))) ≡ count (is (i + 1)) (tab m b g)
 count-shift i zero b g = refl
-count-shift i (suc m) b g = ap₂ (λ (t : Bool) (n : ℕ). pick t (suc n) n) (go (g b) (eqb (g b) 0) refl (eqb (g b) (i + 1)) refl) (count-shift i m (suc b) g)
+count-shift i (suc m) b g = ap₂ (λ (t : Bool) (n : ℕ). choose t (suc n) n) (go (g b) (eqb (g b) 0) refl (eqb (g b) (i + 1)) refl) (count-shift i m (suc b) g)
   where
     go : (s : ℕ) (u : Bool) → eqb s 0 ≡ u → (v : Bool) → eqb s (i + 1) ≡ v → eqb (choose u 0 (suc s)) (suc i + 1) ≡ v
     go s true e true h = absurd (omega (arith, eqb-true s 0 e, eqb-true s (i + 1) h))
@@ -328,7 +328,7 @@ count-shift i (suc m) b g = ap₂ (λ (t : Bool) (n : ℕ). pick t (suc n) n) (g
 
 count-shift-one : (m b : ℕ) (g : ℕ → ℕ) → count (is 1) (tab m b (λ j. shift (g j))) ≡ 0
 count-shift-one zero b g = refl
-count-shift-one (suc m) b g = ap₂ (λ (t : Bool) (n : ℕ). pick t (suc n) n) (go (g b) (eqb (g b) 0) refl) (count-shift-one m (suc b) g)
+count-shift-one (suc m) b g = ap₂ (λ (t : Bool) (n : ℕ). choose t (suc n) n) (go (g b) (eqb (g b) 0) refl) (count-shift-one m (suc b) g)
   where
     go : (s : ℕ) (u : Bool) → eqb s 0 ≡ u → eqb (choose u 0 (suc s)) 1 ≡ false
     go s true e = ne-eqb 0 1 (λ q. omega arith)
@@ -336,7 +336,7 @@ count-shift-one (suc m) b g = ap₂ (λ (t : Bool) (n : ℕ). pick t (suc n) n) 
 
 -- one slot number more in front
 front : (s i : ℕ) (l : List ℕ) → (s ≡ i + 1 → ⊥) → count (is (i + 1)) (s ∷ l) ≡ count (is (i + 1)) l
-front s i l n = ap (λ (t : Bool). pick t (suc (count (is (i + 1)) l)) (count (is (i + 1)) l)) (ne-eqb s (i + 1) n)
+front s i l n = ap (λ (t : Bool). choose t (suc (count (is (i + 1)) l)) (count (is (i + 1)) l)) (ne-eqb s (i + 1) n)
 
 slot-once : (m b : ℕ) (row : Row) → b + m ≡ 256 → Climbs b row → (i : ℕ) → count (is (i + 1)) (tab m b (λ j. slotFor j row)) ≡ bit (ltb i (length row))
 slot-once zero b [] e c i = sym (ap bit (le-ltb i 0 (omega arith)))
@@ -367,7 +367,7 @@ slot-once (suc m) b (x ∷ row) e c i = go (eqb (x .0) b) refl (λ v. slot-once 
         ap (λ (s : ℕ). count (is (i + 1)) (s ∷ more)) (slot-none b (suc b) (x ∷ row) v (omega arith)) ∙ front 0 i more (λ q. omega arith) ∙ h v
     go true q h k =
         let same : x .0 ≡ b = eqb-true (x .0) b q in
-        ap (λ (t : Bool). count (is (i + 1)) (pick t 1 (shift (slotFor b row)) ∷ more)) q
+        ap (λ (t : Bool). count (is (i + 1)) (choose t 1 (shift (slotFor b row)) ∷ more)) q
         ∙ ap (λ (l : List ℕ). count (is (i + 1)) (1 ∷ l))
         (tab-as m (suc b) (λ j. slotFor j (x ∷ row)) (λ j. shift (slotFor j row)) (λ j l. slot-later j x row (λ z. omega arith)))
         ∙ by i (k (subst (λ (y : ℕ). Climbs (suc y) row) same (c .1)))

@@ -10,16 +10,16 @@ use native.Mathlib.Omega.{arith}
 use lib.ListN.{length, take, set, replicate, length-append, length-replicate}
 use lib.Seq.{take-at}
 use borrow.Author.Tests.{le-leb, lt-leb, lt-ltb, eq-eqb, ne-eqb}
-use Rattle.lists.specs.Scan.{is, atMost, atLeast, nonzero, all, first, rises}
+use Rattle.lists.specs.Scan.{choose, is, atMost, atLeast, nonzero, all, first, rises}
 use Rattle.lists.specs.Part.{between}
 use Rattle.lists.specs.Edit.{pushIn, pullOut, shiftIn, shiftOut, padded}
-use Rattle.lists.proofs.Scans.{pick}
 use Rattle.lists.proofs.Tests.{both, and-both, all-zero, zeros-all}
 use Rattle.lists.proofs.Parts.{between-length, between-whole, between-join, between-front, between-middle, between-left, between-right}
 use Rattle.records.specs.Own.{sortedOk}
 use Rattle.records.specs.Row.{beside, sortedRow, refFor, Climbs}
 use Rattle.edits.specs.Body.{sortedAdd, sortedRemove, sortedReplace, bytesOf, refsOf, sortedBody}
 use Rattle.edits.specs.Rows.{Row, rowInsert, rowRemove, rowReplace}
+use Rattle.edits.proofs.Columns.{bytes-length, refs-length, padded-length}
 use Rattle.edits.proofs.RowChanges.{refs-later, by-order, insert-length, insert-climbs, remove-length, remove-climbs, replace-length, replace-climbs}
 use Rattle.edits.proofs.Shown.{Sorted}
 
@@ -38,17 +38,6 @@ bytes-col (e ∷ es) = ap (λ (l : List ℕ). e .0 ∷ l) (bytes-col es)
 refs-col : (row : Row) → refsOf row ≡ col (λ e. e .1) row
 refs-col [] = refl
 refs-col (e ∷ es) = ap (λ (l : List ℕ). e .1 ∷ l) (refs-col es)
-
-bytes-length : (row : Row) → length (bytesOf row) ≡ length row
-bytes-length [] = refl
-bytes-length (e ∷ es) = ap suc (bytes-length es)
-
-pub refs-length : (row : Row) → length (refsOf row) ≡ length row
-refs-length [] = refl
-refs-length (e ∷ es) = ap suc (refs-length es)
-
-pub padded-length : (k : ℕ) (l : List ℕ) → length l ≤ k → length (padded k l) ≡ k
-padded-length k l h = omega (arith, length-append l (zeros (k - length l)), length-replicate {A = ℕ} (k - length l) 0)
 
 -- ---- the body built from a row
 beside-row : (row : Row) → beside (bytesOf row) (refsOf row) ≡ row
@@ -190,8 +179,8 @@ module _ (g : ℕ × ℕ → ℕ) (b r : ℕ) where
   col-in lo (e ∷ es) m c z =
       let at = first (atLeast b) (bytesOf es) in
       by-order b r (λ l. shiftIn (first (atLeast b) (bytesOf (e ∷ es))) (g (b, r)) (col g (e ∷ es) ++ zeros (suc m)) ≡ col g l ++ zeros m) e es (c .0 .some) z
-      (λ h. ap (λ (t : Bool). shiftIn (pick t 0 (suc at)) (g (b, r)) (col g (e ∷ es) ++ zeros (suc m))) (le-leb b (e .0) (omega arith)) ∙ push-pad (g (b, r)) m (g e ∷ col g es))
-      (λ h y. ap (λ (t : Bool). shiftIn (pick t 0 (suc at)) (g (b, r)) (col g (e ∷ es) ++ zeros (suc m))) (lt-leb b (e .0) h)
+      (λ h. ap (λ (t : Bool). shiftIn (choose t 0 (suc at)) (g (b, r)) (col g (e ∷ es) ++ zeros (suc m))) (le-leb b (e .0) (omega arith)) ∙ push-pad (g (b, r)) m (g e ∷ col g es))
+      (λ h y. ap (λ (t : Bool). shiftIn (choose t 0 (suc at)) (g (b, r)) (col g (e ∷ es) ++ zeros (suc m))) (lt-leb b (e .0) h)
       ∙ ap (λ (l : List ℕ). g e ∷ l) (col-in (suc (e .0)) es m (c .1) y))
 
 module _ (g : ℕ × ℕ → ℕ) (b : ℕ) where
@@ -203,9 +192,9 @@ module _ (g : ℕ × ℕ → ℕ) (b : ℕ) where
       go : (d : Dec (b ≡ e .0)) → (0 < refFor b es → shiftOut (first (is b) (bytesOf es)) (col g es ++ zeros m) ≡ col g (rowRemove b es) ++ zeros (suc m))
           → shiftOut (first (is b) (bytesOf (e ∷ es))) (col g (e ∷ es) ++ zeros m) ≡ col g (ite d es (e ∷ rowRemove b es)) ++ zeros (suc m)
       go (yes q) ih =
-          ap (λ (t : Bool). shiftOut (pick t 0 (suc (first (is b) (bytesOf es)))) (col g (e ∷ es) ++ zeros m)) (eq-eqb (e .0) b (sym q)) ∙ pull-pad (g e) (col g es) m
+          ap (λ (t : Bool). shiftOut (choose t 0 (suc (first (is b) (bytesOf es)))) (col g (e ∷ es) ++ zeros m)) (eq-eqb (e .0) b (sym q)) ∙ pull-pad (g e) (col g es) m
       go (no n) ih =
-          ap (λ (t : Bool). shiftOut (pick t 0 (suc (first (is b) (bytesOf es)))) (col g (e ∷ es) ++ zeros m)) (ne-eqb (e .0) b (λ q. n (sym q)))
+          ap (λ (t : Bool). shiftOut (choose t 0 (suc (first (is b) (bytesOf es)))) (col g (e ∷ es) ++ zeros m)) (ne-eqb (e .0) b (λ q. n (sym q)))
           ∙ ap (λ (l : List ℕ). g e ∷ l) (ih (omega (arith, refs-later b e es n)))
 
 module _ (b r : ℕ) where
@@ -223,9 +212,9 @@ module _ (b r : ℕ) where
     where
       go : (d : Dec (b ≡ e .0)) → (0 < refFor b es → set (refsOf es ++ z) (first (is b) (bytesOf es)) r ≡ refsOf (rowReplace b r es) ++ z)
           → set (refsOf (e ∷ es) ++ z) (first (is b) (bytesOf (e ∷ es))) r ≡ refsOf (ite d ((e .0, r) ∷ es) (e ∷ rowReplace b r es)) ++ z
-      go (yes q) ih = ap (λ (t : Bool). set (refsOf (e ∷ es) ++ z) (pick t 0 (suc (first (is b) (bytesOf es)))) r) (eq-eqb (e .0) b (sym q))
+      go (yes q) ih = ap (λ (t : Bool). set (refsOf (e ∷ es) ++ z) (choose t 0 (suc (first (is b) (bytesOf es)))) r) (eq-eqb (e .0) b (sym q))
       go (no n) ih =
-          ap (λ (t : Bool). set (refsOf (e ∷ es) ++ z) (pick t 0 (suc (first (is b) (bytesOf es)))) r) (ne-eqb (e .0) b (λ q. n (sym q)))
+          ap (λ (t : Bool). set (refsOf (e ∷ es) ++ z) (choose t 0 (suc (first (is b) (bytesOf es)))) r) (ne-eqb (e .0) b (λ q. n (sym q)))
           ∙ ap (λ (l : List ℕ). e .1 ∷ l) (ih (omega (arith, refs-later b e es n)))
 
 -- ---- a column padded to k places

@@ -1,5 +1,5 @@
 -- Kind 4, and every table of 256 places: the table of a row has this row, and a table with another reference for a byte has the changed row.
-use Prim.Native.Nat.{ℕ, zero, suc, _+_, _-_, _≤_, _<_}
+use Prim.Native.Nat.{ℕ, zero, suc, _+_, _-_, _<_}
 use mathlib.Core.Path.{_≡_, refl, sym, ap, ap₂, subst, _∙_}
 use mathlib.Core.List.{List, [], _∷_}
 use mathlib.Core.Bool.{Bool, true, false}
@@ -7,8 +7,7 @@ use native.Mathlib.Omega.{arith}
 use lib.ListN.{length, getD, set, length-set}
 use lib.Dec.{eqb}
 use borrow.Author.Tests.{eq-eqb, ne-eqb, eqb-true, eqb-false, lt-ltb}
-use Rattle.lists.specs.Scan.{nonzero, all}
-use Rattle.lists.proofs.Scans.{pick}
+use Rattle.lists.specs.Scan.{choose, nonzero, all}
 use Rattle.lists.proofs.Tests.{and-both}
 use Rattle.records.specs.Own.{directOk}
 use Rattle.records.specs.Row.{filled, directRow, refFor, Climbs}
@@ -16,18 +15,11 @@ use Rattle.records.proofs.Rows.{filled-skips, filled-holds}
 use Rattle.records.proofs.RowRules.{climbs-none, filled-length}
 use Rattle.edits.specs.Body.{tab, rowSpread}
 use Rattle.edits.specs.Rows.{Row, rowInsert, rowRemove, rowReplace}
+use Rattle.edits.proofs.Columns.{tab-as, tab-length}
 use Rattle.edits.proofs.RowChanges.{insert-length, remove-length, replace-length, table-insert, table-remove, table-replace}
 use Rattle.edits.proofs.Shown.{Direct}
 
 -- ---- g of each number
-pub tab-as : (m b : ℕ) (g h : ℕ → ℕ) → ((i : ℕ) → b ≤ i → g i ≡ h i) → tab m b g ≡ tab m b h
-tab-as zero b g h e = refl
-tab-as (suc m) b g h e = ap₂ (λ (x : ℕ) (l : List ℕ). x ∷ l) (e b (omega arith)) (tab-as m (suc b) g h (λ i l. e i (omega arith)))
-
-pub tab-length : (m b : ℕ) (g : ℕ → ℕ) → length (tab m b g) ≡ m
-tab-length zero b g = refl
-tab-length (suc m) b g = ap suc (tab-length m (suc b) g)
-
 pub tab-all : (p : ℕ → Bool) (m b : ℕ) (g : ℕ → ℕ) → ((i : ℕ) → p (g i) ≡ true) → all p (tab m b g) ≡ true
 tab-all p zero b g h = refl
 tab-all p (suc m) b g h = and-both (h b) (tab-all p m (suc b) g h)
@@ -46,11 +38,11 @@ tab-row (suc m) b (x ∷ row) e c = go (eqb (x .0) b) refl (tab-row m (suc b) (x
         → (Climbs (suc b) row → filled (suc b) (tab m (suc b) (λ i. refFor i row)) ≡ row) → filled b (refFor b (x ∷ row) ∷ more) ≡ x ∷ row
     go true q h k =
         let same : x .0 ≡ b = eqb-true (x .0) b q in
-        ap (λ (t : Bool). filled b (pick t (x .1) (refFor b row) ∷ more)) q
+        ap (λ (t : Bool). filled b (choose t (x .1) (refFor b row) ∷ more)) q
         ∙ filled-holds b (x .1) more (lt-ltb 0 (x .1) (c .0 .some))
         ∙ ap₂ (λ (y : ℕ) (l : Row). (y, x .1) ∷ l) (sym same)
         (ap (filled (suc b))
-        (tab-as m (suc b) (λ i. refFor i (x ∷ row)) (λ i. refFor i row) (λ j l. ap (λ (t : Bool). pick t (x .1) (refFor j row)) (ne-eqb (x .0) j (λ z. omega arith))))
+        (tab-as m (suc b) (λ i. refFor i (x ∷ row)) (λ i. refFor i row) (λ j l. ap (λ (t : Bool). choose t (x .1) (refFor j row)) (ne-eqb (x .0) j (λ z. omega arith))))
         ∙ k (subst (λ (y : ℕ). Climbs (suc y) row) same (c .1)))
     go false q h k =
         let other : x .0 ≡ b → ⊥ = eqb-false (x .0) b q in

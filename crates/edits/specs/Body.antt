@@ -1,7 +1,6 @@
 -- The body of an inner record changed, by kind, and the body of a row.
 use Prim.Native.Nat.{ℕ, zero, suc, _+_}
 use mathlib.Core.List.{List, [], _∷_, _++_}
-use mathlib.Core.Bool.{true, false}
 use lib.ListN.{getD, set}
 use lib.Dec.{eqb, leb}
 use Rattle.lists.specs.Scan.{choose, is, atLeast, first}
@@ -89,7 +88,7 @@ refsOf (e ∷ es) = e .1 ∷ refsOf es
 -- the slot number of a byte: one more than its place in the row, 0 where it has none
 abbrev pub slotFor : ℕ → List (ℕ × ℕ) → ℕ
 slotFor b [] = 0
-slotFor b (e ∷ es) = elim (eqb (e .0) b) [ true ↦ 1 | false ↦ choose (eqb (slotFor b es) 0) 0 (suc (slotFor b es)) ]
+slotFor b (e ∷ es) = choose (eqb (e .0) b) 1 (choose (eqb (slotFor b es) 0) 0 (suc (slotFor b es)))
 
 -- key bytes ascending, then references in the same order
 unfoldable pub sortedBody : ℕ → List (ℕ × ℕ) → List ℕ

@@ -63,7 +63,7 @@ caps-most {f} w k h =
     (by-eight (Small (frameWith (w .form) (w .sizes) (w .caps))) (omega arith) (s .s1) (s .s2) (s .s3) (s .s4) (s .s5) (omega arith) (omega arith) k h)
 
 -- the nth of c records of z words ends within them
-nth-ends : (n c z : ℕ) → n < c → n * z + z ≤ c * z
+pub nth-ends : (n c z : ℕ) → n < c → n * z + z ≤ c * z
 nth-ends n c z h = omega (arith, mul-le-mul-right z h, suc-mul n z)
 
 -- the nth record of a kind's pool ends before the trailer

@@ -27,7 +27,7 @@ use Rattle.art.specs.Chain.{Linked, leaf-ref, head-of, numbers, leaves-of}
 use Rattle.art.specs.Stores.{leaf-place}
 use Rattle.art.proofs.Members.{in-right}
 use Rattle.art.proofs.Chains.{linked-after, linked-here}
-use Rattle.art.proofs.Leaves.{leaves-different}
+use Rattle.art.proofs.Leaves.{leaves-different, numbers-append}
 use Rattle.view.specs.Links.{linksOf}
 use Rattle.view.proofs.Chains.{link-in-pool}
 use Rattle.view.proofs.Views.{used-place}
@@ -66,10 +66,6 @@ less-no (x ∷ s) (y ∷ t) h =
 
 abbrev numbersOf : Listing Held → List ℕ
 numbersOf l = numbers (λ (h : Held). h .number) l
-
-pub numbers-append : (l m : Listing Held) → numbersOf (l ++ m) ≡ numbersOf l ++ numbersOf m
-numbers-append [] m = refl
-numbers-append (e ∷ l) m = ap (λ (r : List ℕ). e .1 .number ∷ r) (numbers-append l m)
 
 numbers-length : (l : Listing Held) → length (numbersOf l) ≡ length l
 numbers-length [] = refl
@@ -127,7 +123,7 @@ module _ {f : Frame} {words keys : List ℕ} {d : Option (Tree Held)} (s : Shown
     unfolding linksOf
     next-word front e rest q i =
         let n = e .1 .number in
-        let order : leaves-of d ≡ numbersOf front ++ n ∷ numbersOf rest = sym (numbers-held s) ∙ ap numbersOf q ∙ numbers-append front (e ∷ rest) in
+        let order : leaves-of d ≡ numbersOf front ++ n ∷ numbersOf rest = sym (numbers-held s) ∙ ap numbersOf q ∙ numbers-append (λ (h : Held). h .number) front (e ∷ rest) in
         sym (link-in-pool f words 3 n (entry-seen s e i .pool)) ∙ linked-here (linksOf f words) (numbersOf front) n (numbersOf rest) (subst (Linked (linksOf f words) 0) order (s .linked)) .1
 
     walk-from : (rest front : Listing Held) → held d ≡ front ++ rest → (left : ℕ) → length rest < left → (ref : ℕ) → ref ≡ head-of (numbersOf rest)

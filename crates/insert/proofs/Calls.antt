@@ -8,7 +8,7 @@ use lib.ListN.{length, getD}
 use lib.Dec.{eqb, ltb}
 use borrow.Author.Tests.{lt-ltb, le-ltb}
 use Rattle.lists.specs.Scan.{choose}
-use Rattle.frames.specs.Form.{forms, formOf}
+use Rattle.frames.specs.Form.{formOf}
 use Rattle.frames.specs.Frame.{trailerOf, rootWord, frameFits, frameOf, FrameOf, frame}
 use Rattle.frames.specs.Place.{inPool, recordAt}
 use Rattle.frames.specs.declared.frame.Frame.{Frame}

@@ -6,6 +6,7 @@ use mathlib.Core.List.{List, [], _∷_, _++_}
 use mathlib.Core.Option.{Option, some}
 use native.Mathlib.Decide.{ℕ-discrete}
 use native.Mathlib.Omega.{arith}
+use Rattle.art.proofs.Leaves.{numbers-append}
 use Rattle.frames.specs.Frame.{lastWord}
 use Rattle.frames.specs.declared.frame.Frame.{Frame}
 use Rattle.records.specs.View.{Held}
@@ -28,7 +29,7 @@ use Rattle.pointed.proofs.Neighbours.{numberOf, leaf-used, head-used, last-used
 use Rattle.range.specs.Range.{afterFirst, afterIs}
 use Rattle.writes.specs.declared.leaf_node.Gap.{Gap}
 use Rattle.insert.proofs.Plans.{Placed}
-use Rattle.insert.proofs.Afters.{numbers-append, after-shown}
+use Rattle.insert.proofs.Afters.{after-shown}
 
 -- the listing parted before the first tag that is not below
 record Parts (tag : Tag) (l : Listing Held) : Type 0 where
@@ -65,7 +66,7 @@ module _ {f : Frame} {words keys : List ℕ} {d : Option (Tree Held)} (s : Shown
   rest = numbers numberOf (parts .rest)
 
   all-leaves : leaves-of d ≡ front ++ rest
-  all-leaves = sym (numbers-held s) ∙ ap (numbers numberOf) (parts .whole) ∙ numbers-append (parts .front) (parts .rest)
+  all-leaves = sym (numbers-held s) ∙ ap (numbers numberOf) (parts .whole) ∙ numbers-append numberOf (parts .front) (parts .rest)
 
   front-in : (n : ℕ) → In n front → In n (leaves-of d)
   front-in n i = subst (In n) (sym all-leaves) (in-left n front rest i)

@@ -7,6 +7,7 @@ use mathlib.Core.Option.{some}
 use mathlib.Core.Bool.{true}
 use native.Mathlib.Omega.{arith}
 use lib.ListN.{length, take, drop, getD}
+use Rattle.states.proofs.OneCell.{used-pool}
 use Rattle.frames.specs.Frame.{rootWord}
 use Rattle.frames.specs.Place.{placeAt, refOf, inPool}
 use Rattle.frames.specs.declared.frame.Frame.{Frame}
@@ -36,7 +37,7 @@ use Rattle.whole.specs.Witness.{tagAt}
 use Rattle.points.specs.Point.{pointOf}
 use Rattle.points.specs.declared.insert_point.Point.{Point}
 use Rattle.states.specs.State.{State}
-use Rattle.states.proofs.Steps.{state-pool, state-zero}
+use Rattle.states.proofs.Steps.{state-zero}
 use Rattle.writes.specs.Above.{linkUp}
 use Rattle.pointed.specs.Told.{upTold, told}
 use Rattle.pointed.proofs.Aparts.{up-apart}
@@ -78,7 +79,7 @@ module _ {f : Frame} {words keys : List ℕ} {t : Tree Held} {links : Links} {co
 
   -- kind 0 has no records
   spare : σ (inner-place 0 0) ≡ unused
-  spare = elim (used-or-free (σ (inner-place 0 0))) [ inl u ↦ absurd (omega (arith, inner-kind (st .frame) 0 0 (state-pool st (inner-place 0 0) u) .0)) | inr e ↦ e ]
+  spare = elim (used-or-free (σ (inner-place 0 0))) [ inl u ↦ absurd (omega (arith, inner-kind (st .frame) 0 0 (used-pool st (inner-place 0 0) u) .0)) | inr e ↦ e ]
 
   at : (p : Point) → pointOf f words keys tag (rootWord words) ≡ p → point most σ (root t) tag ≡ told p
   at p e = sym (told-point s tag tag-bytes) ∙ ap told e

@@ -2,7 +2,6 @@
 use Prim.Native.Nat.{ℕ, _≤_, _/_}
 use mathlib.Core.Path.{_≡_, refl, sym, ap, subst, _∙_}
 use mathlib.Core.List.{List}
-use mathlib.Core.Option.{some}
 use mathlib.Core.Bool.{Bool, true, false}
 use native.Mathlib.Omega.{arith}
 use lib.ListN.{length, getD}
@@ -16,29 +15,24 @@ use Rattle.frames.specs.declared.frame.Frame.{Frame}
 use Rattle.frames.proofs.FormTable.{form-in}
 use Rattle.frames.proofs.Frames.{totals}
 use Rattle.records.specs.Own.{totalOf}
-use Rattle.records.specs.View.{Held}
-use Rattle.art.specs.Tags.{Tag}
-use Rattle.art.specs.Listings.{lookup}
-use Rattle.art.specs.Puts.{put, alter}
+use Rattle.art.specs.Puts.{put}
 use Rattle.art.specs.Deletes.{held}
-use Rattle.art.specs.Verdicts.{known, clash, free, judge}
+use Rattle.art.specs.Verdicts.{known, judge}
 use Rattle.art.specs.Stores.{leaf-place}
 use Rattle.art.specs.Points.{store-of}
-use Rattle.pools.specs.Pool.{lowestFree}
 use Rattle.whole.specs.Marks.{placesIn}
 use Rattle.whole.specs.Check as check
 use Rattle.whole.specs.declared.check.Checked.the-variants as checked
 use Rattle.whole.specs.Sound.{Sound}
 use Rattle.whole.proofs.Sounds.{sound-whole}
 use Rattle.reading.specs.Answers.{Bytes}
-use Rattle.insert.specs.declared.answer.Inserted.{Inserted}
 use Rattle.insert.specs.declared.answer.Inserted.the-variants as inserted
 use Rattle.insert.specs.declared.plan.Plan.{Plan}
 use Rattle.insert.specs.declared.plan.Plan.the-variants.{Over, New, Clash, NoLeaf, NoRecord, Broken}
 use Rattle.insert.specs.Plan.{planOf}
 use Rattle.insert.specs.Room.{LeavesFull, Lacking, Answers}
 use Rattle.insert.specs.Meets.{Meets, overwrites, clashes, no-leaf, no-record, puts-in}
-use Rattle.insert.specs.Insert.{Out, out, planned, insertSound, insertChecked, insertOf}
+use Rattle.insert.specs.Insert.{out, planned, insertSound, insertChecked, insertOf}
 use Rattle.insert.proofs.Plans.{plan-new}
 use Rattle.insert.proofs.Sounds.{insert-sound}
 use Rattle.insert.proofs.Overs.{over-held, over-sound}

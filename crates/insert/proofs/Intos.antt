@@ -6,6 +6,7 @@ use mathlib.Core.List.{List}
 use mathlib.Core.Bool.{true}
 use native.Mathlib.Omega.{arith}
 use lib.ListN.{length, getD}
+use Rattle.states.proofs.OneCell.{used-pool}
 use Rattle.frames.specs.Kind.{kindRow, childrenOf}
 use Rattle.frames.specs.Place.{placeAt, inPool, recordAt}
 use Rattle.frames.specs.declared.frame.Frame.{Frame}
@@ -25,7 +26,7 @@ use Rattle.points.specs.declared.insert_point.Up.{Up}
 use Rattle.writes.specs.At.{addAt, moveAt, Roomy, Moves}
 use Rattle.writes.specs.Above.{linkUp}
 use Rattle.states.specs.State.{State}
-use Rattle.states.proofs.Steps.{state-pool, state-here, state-count-word, state-zero, state-add, state-move, state-clear}
+use Rattle.states.proofs.Steps.{state-here, state-count-word, state-zero, state-add, state-move, state-clear}
 use Rattle.pointed.specs.Told.{upTold}
 use Rattle.pointed.proofs.Ups.{UpSame, off-same, same-then, up-used, up-off, up-edits, up-root, inner-here, up-there, up-linked}
 use Rattle.insert.specs.Apply.{grown, GrowReady}
@@ -94,7 +95,7 @@ module _ {f : Frame} {words keys : List ℕ} {σ : Store Held} {links : Links} {
     y = inner-place j m
 
     grow-kinds : (1 ≤ ref % 8) × (ref % 8 < j) × (j ≤ 4)
-    grow-kinds = (inner-kind (s .frame) (ref % 8) (ref / 8) (state-pool s x into-used) .0, free .from, inner-kind (s .frame) j m (free .pool) .1)
+    grow-kinds = (inner-kind (s .frame) (ref % 8) (ref / 8) (used-pool s x into-used) .0, free .from, inner-kind (s .frame) j m (free .pool) .1)
 
     new-place : placeAt (m * 8 + j) ≡ y
     new-place = place-inner j m (grow-kinds .2)
@@ -121,7 +122,7 @@ module _ {f : Frame} {words keys : List ℕ} {σ : Store Held} {links : Links} {
     larger =
         subst (λ (τ : Store Held). State f (grown f x y byte (leaf-ref n) words) keys τ links root count)
         (ap (λ (τ : Store Held). write τ x unused) (write-write σ y (inner-cell len st rs) (added n)) ∙ write-comm σ y x (added n) unused other)
-        (state-clear (state-add moved j m len st rs byte (leaf-place n) moved-cell (fits .missing) low grow-room pool) (ref % 8) (ref / 8) (state-pool s x into-used))
+        (state-clear (state-add moved j m len st rs byte (leaf-place n) moved-cell (fits .missing) low grow-room pool) (ref % 8) (ref / 8) (used-pool s x into-used))
 
     -- the record above is neither
     above-same : UpSame σ (write (write σ x unused) y (added n)) (upTold up)

@@ -1,5 +1,5 @@
 -- The cases of an insert's plan: of each choice of a record, of the leaf, and of the point.
-use Prim.Native.Nat.{ℕ, zero, suc, _+_, _-_, _*_, _%_, _≤_, _<_}
+use Prim.Native.Nat.{ℕ, zero, suc, _+_, _-_, _%_, _≤_, _<_}
 use mathlib.Core.Path.{_≡_, refl, sym, ap, subst, _∙_}
 use mathlib.Core.List.{List}
 use mathlib.Core.Bool.{Bool, true, false}
@@ -20,20 +20,16 @@ use Rattle.points.specs.Point.{pointOf}
 use Rattle.points.specs.declared.insert_point.Up.{Up}
 use Rattle.points.specs.declared.insert_point.Point.{Point}
 use Rattle.insert.specs.Plan.{growChoice, intoChoice, forkWith, forkChoice, sitePlan, leafPlan, pointPlan, planOf}
-use Rattle.insert.specs.declared.plan.Site.the-variants.{Root, Add, Grow}
+use Rattle.insert.specs.declared.plan.Site.the-variants.{Root, Add}
 use Rattle.insert.specs.declared.plan.Choice.{Choice}
-use Rattle.insert.specs.declared.plan.Choice.the-variants.{At, Nowhere}
+use Rattle.insert.specs.declared.plan.Choice.the-variants.{At}
 use Rattle.insert.specs.declared.plan.Plan.{Plan}
 use Rattle.insert.specs.declared.plan.Plan.the-variants.{NoLeaf}
 
 -- ---- a free record is one of a pool
-module _ (f : Frame) (words : List ℕ) where
-  abbrev pick : ℕ → ℕ → Bool → Free
-  pick kind more b = elim b [ true ↦ free.At kind (lowestFree f words kind) | false ↦ freeFrom f words (kind + 1) more ]
-
 module _ (f : Frame) (words : List ℕ) {k n : ℕ} where
   pick-in : (kind more : ℕ) → (freeFrom f words (kind + 1) more ≡ free.At k n → (k < kind + 1 + more) × (n < getD (f .caps) k 0))
-      → (b : Bool) → ltb (lowestFree f words kind) (getD (f .caps) kind 0) ≡ b → pick f words kind more b ≡ free.At k n
+      → (b : Bool) → ltb (lowestFree f words kind) (getD (f .caps) kind 0) ≡ b → choose b (free.At kind (lowestFree f words kind)) (freeFrom f words (kind + 1) more) ≡ free.At k n
       → (k < kind + suc more) × (n < getD (f .caps) k 0)
   pick-in kind more h true q e =
       let l = ltb-true (lowestFree f words kind) (getD (f .caps) kind 0) q in

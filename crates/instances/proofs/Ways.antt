@@ -8,7 +8,7 @@ use Rattle.frames.specs.Frame.{frame}
 use Rattle.art.specs.Tags.{Tag}
 use Rattle.art.specs.Stores.{Place, leaf-place, inner-place}
 use Rattle.tree.specs.declared.minmax.Edge.{Edge}
-use Rattle.tree.specs.declared.minmax.Edge.the-variants.{Low, High}
+use Rattle.tree.specs.declared.minmax.Edge.the-variants.{Low}
 use Rattle.pointed.proofs.Points.{tag-bytes}
 use Rattle.demands.specs.Calls.{search, prefix-search, minimum, maximum}
 use Rattle.demands.specs.Histories.{Block}

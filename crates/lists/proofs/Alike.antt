@@ -6,7 +6,6 @@ use mathlib.Core.Bool.{Bool}
 use native.Mathlib.Omega.{arith}
 use lib.ListN.{length, getD, drop}
 use Rattle.lists.specs.Scan.{choose, first, past, onward, nth, count}
-use Rattle.lists.proofs.Scans.{pick}
 
 pub data Alike (p q : ℕ → Bool) : List ℕ → List ℕ → Type 0 where
   alike-nil : Alike p q [] []
@@ -27,11 +26,11 @@ module _ {p q : ℕ → Bool} where
 
   pub count-alike : {l k : List ℕ} → Alike p q l k → count p l ≡ count q k
   count-alike alike-nil = refl
-  count-alike (alike-cons e a) = ap₂ (λ (b : Bool) (n : ℕ). pick b (suc n) n) e (count-alike a)
+  count-alike (alike-cons e a) = ap₂ (λ (b : Bool) (n : ℕ). choose b (suc n) n) e (count-alike a)
 
   pub first-alike : {l k : List ℕ} → Alike p q l k → first p l ≡ first q k
   first-alike alike-nil = refl
-  first-alike (alike-cons e a) = ap₂ (λ (b : Bool) (n : ℕ). pick b 0 (suc n)) e (first-alike a)
+  first-alike (alike-cons e a) = ap₂ (λ (b : Bool) (n : ℕ). choose b 0 (suc n)) e (first-alike a)
 
   pub past-alike : {l k : List ℕ} → Alike p q l k → past p l ≡ past q k
   past-alike alike-nil = refl
@@ -40,7 +39,7 @@ module _ {p q : ℕ → Bool} where
   pub nth-alike : {l k : List ℕ} (n : ℕ) → Alike p q l k → nth p n l ≡ nth q n k
   nth-alike zero alike-nil = refl
   nth-alike (suc n) alike-nil = refl
-  nth-alike zero (alike-cons e a) = ap₂ (λ (b : Bool) (m : ℕ). pick b 0 (suc m)) e (nth-alike zero a)
+  nth-alike zero (alike-cons e a) = ap₂ (λ (b : Bool) (m : ℕ). choose b 0 (suc m)) e (nth-alike zero a)
   nth-alike (suc n) (alike-cons {x} {y} {xs} {ys} e a) =
-      ap (λ (b : Bool). pick b (suc (nth p n xs)) (suc (nth p (suc n) xs))) e
-      ∙ ap₂ (λ (m o : ℕ). pick (q y) (suc m) (suc o)) (nth-alike n a) (nth-alike (suc n) a)
+      ap (λ (b : Bool). choose b (suc (nth p n xs)) (suc (nth p (suc n) xs))) e
+      ∙ ap₂ (λ (m o : ℕ). choose (q y) (suc m) (suc o)) (nth-alike n a) (nth-alike (suc n) a)

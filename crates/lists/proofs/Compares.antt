@@ -9,8 +9,9 @@ use borrow.Author.Tests.{eqb-true, eqb-false, eq-eqb, ne-eqb, lt-ltb, le-ltb}
 use lib.ListN.{length, getD, take, drop, length-take, drop-of-length-le}
 use lib.Seq.{getD-take}
 use lib.Dec.{eqb, ltb, eqb·zero-suc, eqb·suc-suc}
+use Rattle.lists.specs.Scan.{choose}
 use Rattle.lists.specs.Compare.{shared, same, begins, less}
-use Rattle.lists.proofs.Scans.{step, pick}
+use Rattle.lists.proofs.Scans.{step}
 use Rattle.lists.proofs.Tests.{both, and-both}
 
 -- both lists agree before i
@@ -28,11 +29,11 @@ shared-nil (x ∷ xs) = refl
 
 module _ {s t : List ℕ} {i : ℕ} (r : Shared s t i) where
   shared-step : (b : Bool) → eqb (getD s i 0) (getD t i 0) ≡ b → i < length s → i < length t
-      → shared (drop i s) (drop i t) ≡ pick b (suc (shared (drop (i + 1) s) (drop (i + 1) t))) 0
+      → shared (drop i s) (drop i t) ≡ choose b (suc (shared (drop (i + 1) s) (drop (i + 1) t))) 0
   shared-step b e h k =
       ap (λ (l : List ℕ). shared l (drop i t)) (step s i h)
       ∙ ap (shared (getD s i 0 ∷ drop (i + 1) s)) (step t i k)
-      ∙ ap (λ (c : Bool). pick c (suc (shared (drop (i + 1) s) (drop (i + 1) t))) 0) e
+      ∙ ap (λ (c : Bool). choose c (suc (shared (drop (i + 1) s) (drop (i + 1) t))) 0) e
 
   pub shared-on : eqb (getD s i 0) (getD t i 0) ≡ true → i < length s → i < length t → Shared s t (i + 1)
   shared-on e h k = record { within = omega arith; beside = omega arith; left = omega (arith, shared-step true e h k) }
@@ -53,7 +54,7 @@ shared-le (x ∷ xs) [] = (omega arith, omega arith)
 shared-le (x ∷ xs) (y ∷ ys) = go (eqb x y) (shared-le xs ys)
   where
     go : (b : Bool) → (shared xs ys ≤ length xs) × (shared xs ys ≤ length ys)
-        → (pick b (suc (shared xs ys)) 0 ≤ suc (length xs)) × (pick b (suc (shared xs ys)) 0 ≤ suc (length ys))
+        → (choose b (suc (shared xs ys)) 0 ≤ suc (length xs)) × (choose b (suc (shared xs ys)) 0 ≤ suc (length ys))
     go true h = (omega arith, omega arith)
     go false h = (omega arith, omega arith)
 
@@ -64,7 +65,7 @@ shared-front (x ∷ xs) [] = refl
 shared-front (x ∷ xs) (y ∷ ys) = go (eqb x y) refl (shared-front xs ys)
   where
     go : (b : Bool) → eqb x y ≡ b → take (shared xs ys) xs ≡ take (shared xs ys) ys
-        → take (pick b (suc (shared xs ys)) 0) (x ∷ xs) ≡ take (pick b (suc (shared xs ys)) 0) (y ∷ ys)
+        → take (choose b (suc (shared xs ys)) 0) (x ∷ xs) ≡ take (choose b (suc (shared xs ys)) 0) (y ∷ ys)
     go true e ih = ap (λ (z : ℕ). z ∷ take (shared xs ys) xs) (eqb-true x y e) ∙ ap (λ (l : List ℕ). y ∷ l) ih
     go false e ih = refl
 
@@ -73,7 +74,7 @@ shared-at [] t i h = absurd (omega arith)
 shared-at (x ∷ xs) [] i h = absurd (omega arith)
 shared-at (x ∷ xs) (y ∷ ys) i h = go (eqb x y) refl i (shared-at xs ys) h
   where
-    go : (b : Bool) → eqb x y ≡ b → (i : ℕ) → ((j : ℕ) → j < shared xs ys → getD xs j 0 ≡ getD ys j 0) → i < pick b (suc (shared xs ys)) 0
+    go : (b : Bool) → eqb x y ≡ b → (i : ℕ) → ((j : ℕ) → j < shared xs ys → getD xs j 0 ≡ getD ys j 0) → i < choose b (suc (shared xs ys)) 0
         → getD (x ∷ xs) i 0 ≡ getD (y ∷ ys) i 0
     go true e zero ih k = eqb-true x y e
     go true e (suc i) ih k = ih i (omega arith)
@@ -85,8 +86,8 @@ shared-differ (x ∷ xs) [] h k = absurd (omega arith)
 shared-differ (x ∷ xs) (y ∷ ys) h k = go (eqb x y) refl (shared-differ xs ys) h k
   where
     go : (b : Bool) → eqb x y ≡ b → (shared xs ys < length xs → shared xs ys < length ys → getD xs (shared xs ys) 0 ≡ getD ys (shared xs ys) 0 → ⊥)
-        → pick b (suc (shared xs ys)) 0 < suc (length xs) → pick b (suc (shared xs ys)) 0 < suc (length ys)
-        → getD (x ∷ xs) (pick b (suc (shared xs ys)) 0) 0 ≡ getD (y ∷ ys) (pick b (suc (shared xs ys)) 0) 0 → ⊥
+        → choose b (suc (shared xs ys)) 0 < suc (length xs) → choose b (suc (shared xs ys)) 0 < suc (length ys)
+        → getD (x ∷ xs) (choose b (suc (shared xs ys)) 0) 0 ≡ getD (y ∷ ys) (choose b (suc (shared xs ys)) 0) 0 → ⊥
     go true e ih h k = ih (omega arith) (omega arith)
     go false e ih h k = eqb-false x y e
 
@@ -96,9 +97,9 @@ pub shared-is : (s t : List ℕ) (n : ℕ) → n ≤ length s → n ≤ length t
 shared-is [] t n h k a d = omega arith
 shared-is (x ∷ xs) [] n h k a d = omega arith
 shared-is (x ∷ xs) (y ∷ ys) zero h k a d =
-    ap (λ (b : Bool). pick b (suc (shared xs ys)) 0) (ne-eqb x y (d (omega arith) (omega arith)))
+    ap (λ (b : Bool). choose b (suc (shared xs ys)) 0) (ne-eqb x y (d (omega arith) (omega arith)))
 shared-is (x ∷ xs) (y ∷ ys) (suc n) h k a d =
-    ap (λ (b : Bool). pick b (suc (shared xs ys)) 0) (eq-eqb x y (a 0 (omega arith)))
+    ap (λ (b : Bool). choose b (suc (shared xs ys)) 0) (eq-eqb x y (a 0 (omega arith)))
     ∙ ap suc (shared-is xs ys n (omega arith) (omega arith) (λ i j. a (suc i) (omega arith)) (λ i j. d (omega arith) (omega arith)))
 
 -- a common beginning is no longer than it
@@ -109,7 +110,7 @@ shared-more (x ∷ xs) (y ∷ ys) zero h k e = omega arith
 shared-more (x ∷ xs) (y ∷ ys) (suc n) h k e =
     let q : x ≡ y = cc in
     let w : take n xs ≡ take n ys = cc in
-    omega (arith, shared-more xs ys n (omega arith) (omega arith) w, ap (λ (b : Bool). pick b (suc (shared xs ys)) 0) (eq-eqb x y q))
+    omega (arith, shared-more xs ys n (omega arith) (omega arith) w, ap (λ (b : Bool). choose b (suc (shared xs ys)) 0) (eq-eqb x y q))
 
 pub shared-swap : (s t : List ℕ) → shared s t ≡ shared t s
 shared-swap s t =
@@ -120,7 +121,7 @@ shared-swap s t =
 pub shared-append : (p s t : List ℕ) → shared (p ++ s) (p ++ t) ≡ length p + shared s t
 shared-append [] s t = omega arith
 shared-append (x ∷ xs) s t =
-    ap (λ (b : Bool). pick b (suc (shared (xs ++ s) (xs ++ t))) 0) (eq-eqb x x refl) ∙ omega (arith, shared-append xs s t)
+    ap (λ (b : Bool). choose b (suc (shared (xs ++ s) (xs ++ t))) 0) (eq-eqb x x refl) ∙ omega (arith, shared-append xs s t)
 
 -- with the left cut short
 pub shared-take : (n : ℕ) (s t : List ℕ) → shared (take n s) t ≡ min n (shared s t)
@@ -137,7 +138,7 @@ shared-take n s t = go (shared-le s t) (length-take n s) (decLt n (shared s t))
 
 pub shared-self : (s : List ℕ) → shared s s ≡ length s
 shared-self [] = refl
-shared-self (x ∷ xs) = ap (λ (b : Bool). pick b (suc (shared xs xs)) 0) (eq-eqb x x refl) ∙ ap suc (shared-self xs)
+shared-self (x ∷ xs) = ap (λ (b : Bool). choose b (suc (shared xs xs)) 0) (eq-eqb x x refl) ∙ ap suc (shared-self xs)
 
 -- ---- the same
 pub same-shared : (s t : List ℕ) → same s t ≡ eqb (shared s t) (length s) && eqb (shared s t) (length t)
@@ -147,7 +148,7 @@ same-shared (x ∷ xs) [] = ap (λ (b : Bool). b && true) (sym (eqb·zero-suc (l
 same-shared (x ∷ xs) (y ∷ ys) = go (eqb x y) (same-shared xs ys)
   where
     go : (b : Bool) → same xs ys ≡ eqb (shared xs ys) (length xs) && eqb (shared xs ys) (length ys)
-        → b && same xs ys ≡ eqb (pick b (suc (shared xs ys)) 0) (suc (length xs)) && eqb (pick b (suc (shared xs ys)) 0) (suc (length ys))
+        → b && same xs ys ≡ eqb (choose b (suc (shared xs ys)) 0) (suc (length xs)) && eqb (choose b (suc (shared xs ys)) 0) (suc (length ys))
     go true ih = rw (eqb·suc-suc (shared xs ys) (length xs), eqb·suc-suc (shared xs ys) (length ys)) ih
     go false ih = ap (λ (b : Bool). b && eqb 0 (suc (length ys))) (sym (eqb·zero-suc (length xs)))
 
@@ -157,7 +158,7 @@ begins-shared [] t = refl
 begins-shared (x ∷ xs) [] = sym (eqb·zero-suc (length xs))
 begins-shared (x ∷ xs) (y ∷ ys) = go (eqb x y) (begins-shared xs ys)
   where
-    go : (b : Bool) → begins xs ys ≡ eqb (shared xs ys) (length xs) → b && begins xs ys ≡ eqb (pick b (suc (shared xs ys)) 0) (suc (length xs))
+    go : (b : Bool) → begins xs ys ≡ eqb (shared xs ys) (length xs) → b && begins xs ys ≡ eqb (choose b (suc (shared xs ys)) 0) (suc (length xs))
     go true ih = rw (eqb·suc-suc (shared xs ys) (length xs)) ih
     go false ih = sym (eqb·zero-suc (length xs))
 
@@ -240,7 +241,7 @@ less-out s [] h = refl
 less-out [] (y ∷ ys) h = absurd (omega arith)
 less-out (x ∷ xs) (y ∷ ys) h = go (eqb x y) refl (less-out xs ys) h
   where
-    go : (b : Bool) → eqb x y ≡ b → (shared xs ys ≡ length ys → less xs ys ≡ false) → pick b (suc (shared xs ys)) 0 ≡ suc (length ys)
+    go : (b : Bool) → eqb x y ≡ b → (shared xs ys ≡ length ys → less xs ys ≡ false) → choose b (suc (shared xs ys)) 0 ≡ suc (length ys)
         → ltb x y || (b && less xs ys) ≡ false
     go true e ih k = ap (λ (c : Bool). c || less xs ys) (le-ltb x y (omega (arith, eqb-true x y e))) ∙ ih (omega arith)
     go false e ih k = absurd (omega arith)
@@ -250,8 +251,8 @@ less-end s [] h k = absurd (omega arith)
 less-end [] (y ∷ ys) h k = refl
 less-end (x ∷ xs) (y ∷ ys) h k = go (eqb x y) refl (less-end xs ys) h k
   where
-    go : (b : Bool) → eqb x y ≡ b → (shared xs ys ≡ length xs → shared xs ys < length ys → less xs ys ≡ true) → pick b (suc (shared xs ys)) 0 ≡ suc (length xs)
-        → pick b (suc (shared xs ys)) 0 < suc (length ys) → ltb x y || (b && less xs ys) ≡ true
+    go : (b : Bool) → eqb x y ≡ b → (shared xs ys ≡ length xs → shared xs ys < length ys → less xs ys ≡ true) → choose b (suc (shared xs ys)) 0 ≡ suc (length xs)
+        → choose b (suc (shared xs ys)) 0 < suc (length ys) → ltb x y || (b && less xs ys) ≡ true
     go true e ih h k = ap (λ (c : Bool). c || less xs ys) (le-ltb x y (omega (arith, eqb-true x y e))) ∙ ih (omega arith) (omega arith)
     go false e ih h k = absurd (omega arith)
 
@@ -261,8 +262,8 @@ less-at [] (y ∷ ys) h k = absurd (omega arith)
 less-at (x ∷ xs) (y ∷ ys) h k = go (eqb x y) refl (less-at xs ys) h k
   where
     go : (b : Bool) → eqb x y ≡ b → (shared xs ys < length xs → shared xs ys < length ys → less xs ys ≡ ltb (getD xs (shared xs ys) 0) (getD ys (shared xs ys) 0))
-        → pick b (suc (shared xs ys)) 0 < suc (length xs) → pick b (suc (shared xs ys)) 0 < suc (length ys)
-        → ltb x y || (b && less xs ys) ≡ ltb (getD (x ∷ xs) (pick b (suc (shared xs ys)) 0) 0) (getD (y ∷ ys) (pick b (suc (shared xs ys)) 0) 0)
+        → choose b (suc (shared xs ys)) 0 < suc (length xs) → choose b (suc (shared xs ys)) 0 < suc (length ys)
+        → ltb x y || (b && less xs ys) ≡ ltb (getD (x ∷ xs) (choose b (suc (shared xs ys)) 0) 0) (getD (y ∷ ys) (choose b (suc (shared xs ys)) 0) 0)
     go true e ih h k = ap (λ (c : Bool). c || less xs ys) (le-ltb x y (omega (arith, eqb-true x y e))) ∙ ih (omega arith) (omega arith)
     go false e ih h k = or-false (ltb x y)
 

@@ -20,10 +20,6 @@ step s i h = rw add-one (drop-cons s i 0 h)
 pub step-back : (s : List ℕ) (i : ℕ) → 0 < i → i ≤ length s → take i s ≡ take (i - 1) s ++ (getD s (i - 1) 0 ∷ [])
 step-back s i z h = ap (λ (n : ℕ). take n s) (let q : i ≡ suc (i - 1) = omega arith in q) ∙ take-suc s (i - 1) 0 (omega arith)
 
--- the form of a definition by `elim`, so that a test in it can be named
-abbrev pub pick : Bool → ℕ → ℕ → ℕ
-pick b m n = elim b [ true ↦ m | false ↦ n ]
-
 -- every element passes: `ok` says whether those before i do
 pub record All (p : ℕ → Bool) (s : List ℕ) (i : ℕ) (ok : Bool) : Type 0 where
   pub within : i ≤ length s
@@ -51,12 +47,12 @@ first-start = record { within = omega arith; left = omega arith }
 module _ {p : ℕ → Bool} {s : List ℕ} {i : ℕ} (r : First p s i) where
   pub first-on : p (getD s i 0) ≡ false → i < length s → First p s (i + 1)
   first-on t h =
-      let q : first p (drop i s) ≡ suc (first p (drop (i + 1) s)) = ap (first p) (step s i h) ∙ ap (λ (b : Bool). pick b 0 (suc (first p (drop (i + 1) s)))) t in
+      let q : first p (drop i s) ≡ suc (first p (drop (i + 1) s)) = ap (first p) (step s i h) ∙ ap (λ (b : Bool). choose b 0 (suc (first p (drop (i + 1) s)))) t in
       record { within = omega arith; left = omega arith }
 
   pub first-at : p (getD s i 0) ≡ true → i < length s → i ≡ first p s
   first-at t h =
-      let q : first p (drop i s) ≡ 0 = ap (first p) (step s i h) ∙ ap (λ (b : Bool). pick b 0 (suc (first p (drop (i + 1) s)))) t in
+      let q : first p (drop i s) ≡ 0 = ap (first p) (step s i h) ∙ ap (λ (b : Bool). choose b 0 (suc (first p (drop (i + 1) s)))) t in
       omega arith
 
   pub first-end : length s ≤ i → i ≡ first p s
@@ -76,12 +72,12 @@ count-start = record { within = omega arith; few = omega arith; left = omega ari
 module _ {p : ℕ → Bool} {s : List ℕ} {i n : ℕ} (r : Count p s i n) where
   pub count-on : p (getD s i 0) ≡ true → i < length s → Count p s (i + 1) (n + 1)
   count-on t h =
-      let q : count p (drop i s) ≡ suc (count p (drop (i + 1) s)) = ap (count p) (step s i h) ∙ ap (λ (b : Bool). pick b (suc (count p (drop (i + 1) s))) (count p (drop (i + 1) s))) t in
+      let q : count p (drop i s) ≡ suc (count p (drop (i + 1) s)) = ap (count p) (step s i h) ∙ ap (λ (b : Bool). choose b (suc (count p (drop (i + 1) s))) (count p (drop (i + 1) s))) t in
       record { within = omega arith; few = omega arith; left = omega arith }
 
   pub count-off : p (getD s i 0) ≡ false → i < length s → Count p s (i + 1) n
   count-off t h =
-      let q : count p (drop i s) ≡ count p (drop (i + 1) s) = ap (count p) (step s i h) ∙ ap (λ (b : Bool). pick b (suc (count p (drop (i + 1) s))) (count p (drop (i + 1) s))) t in
+      let q : count p (drop i s) ≡ count p (drop (i + 1) s) = ap (count p) (step s i h) ∙ ap (λ (b : Bool). choose b (suc (count p (drop (i + 1) s))) (count p (drop (i + 1) s))) t in
       record { within = omega arith; few = omega arith; left = omega arith }
 
   pub count-end : length s ≤ i → n ≡ count p s
@@ -156,14 +152,14 @@ nth-start = record { within = omega arith; left = omega arith }
 
 module _ (p : ℕ → Bool) (x : ℕ) (xs : List ℕ) where
   pub nth-skips : (m : ℕ) → p x ≡ false → nth p m (x ∷ xs) ≡ suc (nth p m xs)
-  nth-skips zero t = ap (λ (b : Bool). pick b 0 (suc (nth p zero xs))) t
-  nth-skips (suc m) t = ap (λ (b : Bool). pick b (suc (nth p m xs)) (suc (nth p (suc m) xs))) t
+  nth-skips zero t = ap (λ (b : Bool). choose b 0 (suc (nth p zero xs))) t
+  nth-skips (suc m) t = ap (λ (b : Bool). choose b (suc (nth p m xs)) (suc (nth p (suc m) xs))) t
 
   pub nth-counts : (m : ℕ) → p x ≡ true → nth p (suc m) (x ∷ xs) ≡ suc (nth p m xs)
-  nth-counts m t = ap (λ (b : Bool). pick b (suc (nth p m xs)) (suc (nth p (suc m) xs))) t
+  nth-counts m t = ap (λ (b : Bool). choose b (suc (nth p m xs)) (suc (nth p (suc m) xs))) t
 
   pub nth-here : p x ≡ true → nth p 0 (x ∷ xs) ≡ 0
-  nth-here t = ap (λ (b : Bool). pick b 0 (suc (nth p zero xs))) t
+  nth-here t = ap (λ (b : Bool). choose b 0 (suc (nth p zero xs))) t
 
 module _ {p : ℕ → Bool} {n : ℕ} {s : List ℕ} {i m : ℕ} (r : Nth p n s i m) where
   pub nth-on : p (getD s i 0) ≡ true → 0 < m → i < length s → Nth p n s (i + 1) (m - 1)

@@ -9,7 +9,7 @@ use lib.ListN.{length, getD, take, drop, set, replicate}
 use lib.Dec.{leb}
 use Rattle.lists.specs.Scan.{choose, atMost, all, first, past, onward, nth, count, rises}
 use Rattle.lists.specs.Part.{between}
-use Rattle.lists.proofs.Scans.{pick, nth-skips, nth-counts, nth-here}
+use Rattle.lists.proofs.Scans.{nth-skips, nth-counts, nth-here}
 
 pub both : (a b : Bool) → a && b ≡ true → (a ≡ true) × (b ≡ true)
 both true b e = (refl, e)
@@ -68,6 +68,12 @@ all-zero (x ∷ xs) e =
     let z : x ≡ 0 = omega (arith, leb-true x 0 (b .0)) in
     ap (λ (y : ℕ). y ∷ xs) z ∙ ap (λ (l : List ℕ). 0 ∷ l) (all-zero xs (b .1))
 
+-- zeros, and nothing behind them
+pub zeros-at : (n i : ℕ) → getD {A = ℕ} (replicate n 0) i 0 ≡ 0
+zeros-at zero i = refl
+zeros-at (suc n) zero = refl
+zeros-at (suc n) (suc i) = zeros-at n i
+
 pub zeros-all : (n b : ℕ) → all (atMost b) (replicate n 0) ≡ true
 zeros-all n b = all-replicate (atMost b) n 0 (le-leb 0 b (omega arith))
 
@@ -82,7 +88,7 @@ module _ (p : ℕ → Bool) where
   first-le [] = omega arith
   first-le (x ∷ xs) = go (p x) (first-le xs)
     where
-      go : (t : Bool) → first p xs ≤ length xs → pick t 0 (suc (first p xs)) ≤ suc (length xs)
+      go : (t : Bool) → first p xs ≤ length xs → choose t 0 (suc (first p xs)) ≤ suc (length xs)
       go true h = omega arith
       go false h = omega arith
 
@@ -90,8 +96,8 @@ module _ (p : ℕ → Bool) where
   first-passes [] h = absurd (omega arith)
   first-passes (x ∷ xs) h = go (p x) refl (first-passes xs) h
     where
-      go : (t : Bool) → p x ≡ t → (first p xs < length xs → p (getD xs (first p xs) 0) ≡ true) → pick t 0 (suc (first p xs)) < suc (length xs)
-          → p (getD (x ∷ xs) (pick t 0 (suc (first p xs))) 0) ≡ true
+      go : (t : Bool) → p x ≡ t → (first p xs < length xs → p (getD xs (first p xs) 0) ≡ true) → choose t 0 (suc (first p xs)) < suc (length xs)
+          → p (getD (x ∷ xs) (choose t 0 (suc (first p xs))) 0) ≡ true
       go true e ih k = e
       go false e ih k = ih (omega arith)
 
@@ -99,7 +105,7 @@ module _ (p : ℕ → Bool) where
   first-before [] i h = absurd (omega arith)
   first-before (x ∷ xs) i h = go (p x) refl i (first-before xs) h
     where
-      go : (t : Bool) → p x ≡ t → (i : ℕ) → ((j : ℕ) → j < first p xs → p (getD xs j 0) ≡ false) → i < pick t 0 (suc (first p xs)) → p (getD (x ∷ xs) i 0) ≡ false
+      go : (t : Bool) → p x ≡ t → (i : ℕ) → ((j : ℕ) → j < first p xs → p (getD xs j 0) ≡ false) → i < choose t 0 (suc (first p xs)) → p (getD (x ∷ xs) i 0) ≡ false
       go true e i ih k = absurd (omega arith)
       go false e zero ih k = e
       go false e (suc i) ih k = ih i (omega arith)
@@ -109,14 +115,14 @@ module _ (p : ℕ → Bool) where
 
   pub first-is : (l : List ℕ) (i : ℕ) → i < length l → p (getD l i 0) ≡ true → ((j : ℕ) → j < i → p (getD l j 0) ≡ false) → first p l ≡ i
   first-is [] i h t b = absurd (omega arith)
-  first-is (x ∷ xs) zero h t b = ap (λ (c : Bool). pick c 0 (suc (first p xs))) t
+  first-is (x ∷ xs) zero h t b = ap (λ (c : Bool). choose c 0 (suc (first p xs))) t
   first-is (x ∷ xs) (suc i) h t b =
-      ap (λ (c : Bool). pick c 0 (suc (first p xs))) (b 0 (omega arith)) ∙ ap suc (first-is xs i (omega arith) t (λ j k. b (suc j) (omega arith)))
+      ap (λ (c : Bool). choose c 0 (suc (first p xs))) (b 0 (omega arith)) ∙ ap suc (first-is xs i (omega arith) t (λ j k. b (suc j) (omega arith)))
 
   pub first-nowhere : (l : List ℕ) → ((j : ℕ) → j < length l → p (getD l j 0) ≡ false) → first p l ≡ length l
   first-nowhere [] b = refl
   first-nowhere (x ∷ xs) b =
-      ap (λ (c : Bool). pick c 0 (suc (first p xs))) (b 0 (omega arith)) ∙ ap suc (first-nowhere xs (λ j k. b (suc j) (omega arith)))
+      ap (λ (c : Bool). choose c 0 (suc (first p xs))) (b 0 (omega arith)) ∙ ap suc (first-nowhere xs (λ j k. b (suc j) (omega arith)))
 
   -- ---- the last that passes
   pub past-le : (l : List ℕ) → past p l ≤ length l
@@ -155,7 +161,7 @@ module _ (p : ℕ → Bool) where
   count-le [] = omega arith
   count-le (x ∷ xs) = go (p x) (count-le xs)
     where
-      go : (t : Bool) → count p xs ≤ length xs → pick t (suc (count p xs)) (count p xs) ≤ suc (length xs)
+      go : (t : Bool) → count p xs ≤ length xs → choose t (suc (count p xs)) (count p xs) ≤ suc (length xs)
       go true h = omega arith
       go false h = omega arith
 
@@ -163,7 +169,7 @@ module _ (p : ℕ → Bool) where
   count-append [] k = omega arith
   count-append (x ∷ xs) k = go (p x) (count-append xs k)
     where
-      go : (t : Bool) → count p (xs ++ k) ≡ count p xs + count p k → pick t (suc (count p (xs ++ k))) (count p (xs ++ k)) ≡ pick t (suc (count p xs)) (count p xs) + count p k
+      go : (t : Bool) → count p (xs ++ k) ≡ count p xs + count p k → choose t (suc (count p (xs ++ k))) (count p (xs ++ k)) ≡ choose t (suc (count p xs)) (count p xs) + count p k
       go true h = omega arith
       go false h = omega arith
 
@@ -171,12 +177,12 @@ module _ (p : ℕ → Bool) where
   count-all [] e = refl
   count-all (x ∷ xs) e =
       let b = both (p x) (all p xs) e in
-      ap (λ (t : Bool). pick t (suc (count p xs)) (count p xs)) (b .0) ∙ ap suc (count-all xs (b .1))
+      ap (λ (t : Bool). choose t (suc (count p xs)) (count p xs)) (b .0) ∙ ap suc (count-all xs (b .1))
 
   pub count-none : (l : List ℕ) → ((i : ℕ) → i < length l → p (getD l i 0) ≡ false) → count p l ≡ 0
   count-none [] h = refl
   count-none (x ∷ xs) h =
-      ap (λ (t : Bool). pick t (suc (count p xs)) (count p xs)) (h 0 (omega arith)) ∙ count-none xs (λ i k. h (suc i) (omega arith))
+      ap (λ (t : Bool). choose t (suc (count p xs)) (count p xs)) (h 0 (omega arith)) ∙ count-none xs (λ i k. h (suc i) (omega arith))
 
 -- ---- the one that passes after n others: there is one exactly where more than n pass
 pub record Stands (p : ℕ → Bool) (n : ℕ) (l : List ℕ) (i : ℕ) : Type 0 where
@@ -187,17 +193,17 @@ pub record Stands (p : ℕ → Bool) (n : ℕ) (l : List ℕ) (i : ℕ) : Type 0
 module _ (p : ℕ → Bool) where
   stands-on : (x : ℕ) (xs : List ℕ) (n i : ℕ) → p x ≡ true → Stands p n xs i → Stands p (suc n) (x ∷ xs) (suc i)
   stands-on x xs n i e r =
-      record { within = omega arith; passes = r .passes; others = ap (λ (t : Bool). pick t (suc (count p (take i xs))) (count p (take i xs))) e ∙ ap suc (r .others) }
+      record { within = omega arith; passes = r .passes; others = ap (λ (t : Bool). choose t (suc (count p (take i xs))) (count p (take i xs))) e ∙ ap suc (r .others) }
 
   stands-off : (x : ℕ) (xs : List ℕ) (n i : ℕ) → p x ≡ false → Stands p n xs i → Stands p n (x ∷ xs) (suc i)
   stands-off x xs n i e r =
-      record { within = omega arith; passes = r .passes; others = ap (λ (t : Bool). pick t (suc (count p (take i xs))) (count p (take i xs))) e ∙ r .others }
+      record { within = omega arith; passes = r .passes; others = ap (λ (t : Bool). choose t (suc (count p (take i xs))) (count p (take i xs))) e ∙ r .others }
 
   pub nth-found : (n : ℕ) (l : List ℕ) → n < count p l → Stands p n l (nth p n l)
   nth-found n [] h = absurd (omega arith)
   nth-found n (x ∷ xs) h = go (p x) refl n (λ m. nth-found m xs) h
     where
-      go : (t : Bool) → p x ≡ t → (n : ℕ) → ((m : ℕ) → m < count p xs → Stands p m xs (nth p m xs)) → n < pick t (suc (count p xs)) (count p xs)
+      go : (t : Bool) → p x ≡ t → (n : ℕ) → ((m : ℕ) → m < count p xs → Stands p m xs (nth p m xs)) → n < choose t (suc (count p xs)) (count p xs)
           → Stands p n (x ∷ xs) (nth p n (x ∷ xs))
       go true e zero ih k = subst (Stands p zero (x ∷ xs)) (sym (nth-here p x xs e)) (record { within = omega arith; passes = e; others = refl })
       go true e (suc n) ih k = subst (Stands p (suc n) (x ∷ xs)) (sym (nth-counts p x xs n e)) (stands-on x xs n (nth p n xs) e (ih n (omega arith)))
@@ -207,7 +213,7 @@ module _ (p : ℕ → Bool) where
   nth-none n [] h = refl
   nth-none n (x ∷ xs) h = go (p x) refl n (λ m. nth-none m xs) h
     where
-      go : (t : Bool) → p x ≡ t → (n : ℕ) → ((m : ℕ) → count p xs ≤ m → nth p m xs ≡ length xs) → pick t (suc (count p xs)) (count p xs) ≤ n
+      go : (t : Bool) → p x ≡ t → (n : ℕ) → ((m : ℕ) → count p xs ≤ m → nth p m xs ≡ length xs) → choose t (suc (count p xs)) (count p xs) ≤ n
           → nth p n (x ∷ xs) ≡ suc (length xs)
       go true e zero ih k = absurd (omega arith)
       go true e (suc n) ih k = nth-counts p x xs n e ∙ ap suc (ih n (omega arith))

@@ -3,12 +3,13 @@ use Prim.Native.Nat.{ℕ, suc}
 use mathlib.Core.List.{List, [], _∷_}
 use mathlib.Core.Bool.{Bool, true, false, _&&_, _||_}
 use lib.Dec.{eqb, ltb}
+use Rattle.lists.specs.Scan.{choose}
 
 -- the length of the longest beginning that both have
 abbrev pub shared : List ℕ → List ℕ → ℕ
 shared [] ys = 0
 shared (x ∷ xs) [] = 0
-shared (x ∷ xs) (y ∷ ys) = elim (eqb x y) [ true ↦ suc (shared xs ys) | false ↦ 0 ]
+shared (x ∷ xs) (y ∷ ys) = choose (eqb x y) (suc (shared xs ys)) 0
 
 -- the same elements
 abbrev pub same : List ℕ → List ℕ → Bool

@@ -30,7 +30,7 @@ all p (x ∷ xs) = p x && all p xs
 -- the place of the first element that passes, or the length
 abbrev pub first : (ℕ → Bool) → List ℕ → ℕ
 first p [] = 0
-first p (x ∷ xs) = elim (p x) [ true ↦ 0 | false ↦ suc (first p xs) ]
+first p (x ∷ xs) = choose (p x) 0 (suc (first p xs))
 
 -- one more, where there is something to count on from
 abbrev pub onward : ℕ → ℕ → ℕ
@@ -45,13 +45,13 @@ past p (x ∷ xs) = onward (choose (p x) 1 0) (past p xs)
 -- the place of the element that passes after n others that do, or the length
 abbrev pub nth : (ℕ → Bool) → ℕ → List ℕ → ℕ
 nth p n [] = 0
-nth p zero (x ∷ xs) = elim (p x) [ true ↦ 0 | false ↦ suc (nth p zero xs) ]
-nth p (suc n) (x ∷ xs) = elim (p x) [ true ↦ suc (nth p n xs) | false ↦ suc (nth p (suc n) xs) ]
+nth p zero (x ∷ xs) = choose (p x) 0 (suc (nth p zero xs))
+nth p (suc n) (x ∷ xs) = choose (p x) (suc (nth p n xs)) (suc (nth p (suc n) xs))
 
 -- how many pass
 abbrev pub count : (ℕ → Bool) → List ℕ → ℕ
 count p [] = 0
-count p (x ∷ xs) = elim (p x) [ true ↦ suc (count p xs) | false ↦ count p xs ]
+count p (x ∷ xs) = choose (p x) (suc (count p xs)) (count p xs)
 
 -- strictly ascending bytes, the first of them lo or more
 abbrev pub rises : ℕ → List ℕ → Bool

@@ -10,7 +10,6 @@ use borrow.Author.Tests.{le-leb, lt-leb, eq-eqb, ne-eqb}
 use lib.Dec.{eqb, leb}
 use Rattle.lists.specs.Scan.{choose}
 use Rattle.lists.specs.Compare.{shared}
-use Rattle.lists.proofs.Scans.{pick}
 use Rattle.lists.proofs.Compares.{shared-swap}
 use Rattle.art.specs.Points.{agreed}
 
@@ -20,9 +19,9 @@ shared-agreed [] t = refl
 shared-agreed (x ∷ s) [] = refl
 shared-agreed (x ∷ s) (y ∷ t) = go (ℕ-discrete x y) (shared-agreed s t)
   where
-    go : (d : Dec (x ≡ y)) → shared s t ≡ agreed s t → pick (eqb x y) (suc (shared s t)) 0 ≡ ite d (suc (agreed s t)) 0
-    go (yes e) ih = ap (λ (b : Bool). pick b (suc (shared s t)) 0) (eq-eqb x y e) ∙ ap suc ih
-    go (no n) ih = ap (λ (b : Bool). pick b (suc (shared s t)) 0) (ne-eqb x y n)
+    go : (d : Dec (x ≡ y)) → shared s t ≡ agreed s t → choose (eqb x y) (suc (shared s t)) 0 ≡ ite d (suc (agreed s t)) 0
+    go (yes e) ih = ap (λ (b : Bool). choose b (suc (shared s t)) 0) (eq-eqb x y e) ∙ ap suc ih
+    go (no n) ih = ap (λ (b : Bool). choose b (suc (shared s t)) 0) (ne-eqb x y n)
 
 -- in either order
 pub shared-agreed-swap : (s t : List ℕ) → shared s t ≡ agreed t s

@@ -9,7 +9,7 @@ use native.Mathlib.Omega.{arith}
 use native.Mathlib.Decide.{ℕ-discrete}
 use borrow.Author.Tests.{eqb-true, eqb-false}
 use lib.Dec.{eqb}
-use Rattle.lists.proofs.Scans.{pick}
+use Rattle.lists.specs.Scan.{choose}
 use Rattle.frames.specs.Place.{placeAt}
 use Rattle.records.specs.Row.{refFor}
 use Rattle.records.specs.View.{Held, places}
@@ -45,8 +45,8 @@ row-kid σ (child c t r) g q h (x ∷ row) e b = by (eqb (x .0) b) refl (ℕ-dis
     at = ap (λ (y : ℕ × Place). y .1) (head-eq-of-cons-eq e)
 
     by : (u : Bool) → eqb (x .0) b ≡ u → (d : Dec (b ≡ c)) → ((refFor b row ≡ 0) × (find-ref (refs r) b ≡ none)) ⊎ KidOf σ q (refFor b row) (row-height r) (find-ref (refs r) b)
-        → ((pick u (x .1) (refFor b row) ≡ 0) × (ite d (some (root t)) (find-ref (refs r) b) ≡ none))
-        ⊎ KidOf σ q (pick u (x .1) (refFor b row)) (max (height t) (row-height r)) (ite d (some (root t)) (find-ref (refs r) b))
+        → ((choose u (x .1) (refFor b row) ≡ 0) × (ite d (some (root t)) (find-ref (refs r) b) ≡ none))
+        ⊎ KidOf σ q (choose u (x .1) (refFor b row)) (max (height t) (row-height r)) (ite d (some (root t)) (find-ref (refs r) b))
     by true i (yes d) ih = inr (record { tree = t; good = g .0; byte = c; shows = h .0; low = omega arith; names = sym at; finds = refl })
     by true i (no d) ih = absurd (d (sym (eqb-true (x .0) b i) ∙ sym key))
     by false i (yes d) ih = absurd (eqb-false (x .0) b i (sym key ∙ sym d))

@@ -8,6 +8,7 @@ use mathlib.Core.Bool.{true}
 use native.Mathlib.Omega.{arith}
 use borrow.Author.Tests.{leb-true}
 use lib.ListN.{length, getD, take, drop, length-append}
+use Rattle.points.proofs.Steps.{point-end}
 use Rattle.lists.specs.Scan.{all, atMost}
 use Rattle.lists.proofs.Tests.{both}
 use Rattle.frames.specs.Frame.{FrameOf, rootWord}
@@ -40,7 +41,7 @@ use Rattle.pointed.specs.Told.{upTold, told}
 use Rattle.pointed.proofs.Lowest.{tag-seen, lowest-below}
 use Rattle.pointed.proofs.Kids.{KidOf, row-kid}
 use Rattle.pointed.proofs.Runs.{run-agrees}
-use Rattle.pointed.proofs.Ways.{leaf-ref, inner-ref, leaf-told, after, way-on, way-end, step-by, SameKid, run-told}
+use Rattle.pointed.proofs.Ways.{leaf-ref, inner-ref, leaf-told, after, way-on, step-by, SameKid, run-told}
 
 -- ── a tag's bytes ──
 -- tested one by one, each is below 256, and so is what is read past the end
@@ -61,7 +62,7 @@ module _ {f : Frame} {words keys : List ℕ} (w : FrameOf f words keys) (rules :
   at-leaf : (left n : ℕ) (t : Tag) (a : Held) → cellOf f words keys (leaf-place n) ≡ leaf-cell t a → (i ref : ℕ) → placeAt ref ≡ leaf-place n → (d : ℕ) (upper up : Up)
       → told (pointFrom f words keys tag left ref d upper up) ≡ art.seek m (suc i) (cellOf f words keys) tag (leaf-place n) d (upTold upper) (upTold up)
   at-leaf left n t a h i ref e d upper up =
-      ap told (way-end f words keys tag left ref d upper up _ (step-by f words keys tag left ref d upper up _ (arrival.at-leaf f words keys rules left ref n t a h e)))
+      ap told (point-end f words keys tag left ref d upper up _ (step-by f words keys tag left ref d upper up _ (arrival.at-leaf f words keys rules left ref n t a h e)))
       ∙ leaf-told tag (tagAt f words keys ref) ref n d upper up e
       ∙ ap (λ (x : Tag). art.stop-leaf tag x n d (art.agreed (drop d tag) (drop d x)) (upTold upper) (upTold up)) (tag-seen f words keys ref n t a h (leaf-ref ref n e))
       ∙ sym (ap (art.seek-leaf tag n d (upTold upper) (upTold up)) h)

@@ -5,6 +5,7 @@ use mathlib.Core.Logic.{_≢_, if-neg}
 use mathlib.Core.List.{List, [], _∷_}
 use mathlib.Core.Bool.{true}
 use native.Mathlib.Omega.{arith}
+use Rattle.states.proofs.OneCell.{used-pool}
 use Rattle.frames.specs.Place.{placeAt, refOf, inPool}
 use Rattle.frames.specs.declared.frame.Frame.{Frame}
 use Rattle.frames.proofs.Places.{inner-kind}
@@ -22,7 +23,7 @@ use Rattle.points.specs.declared.insert_point.Up.the-variants.{Top, Via}
 use Rattle.writes.specs.At.{replaceAt}
 use Rattle.writes.specs.Above.{linkUp}
 use Rattle.states.specs.State.{State}
-use Rattle.states.proofs.Steps.{state-pool, state-child, state-replace, state-root}
+use Rattle.states.proofs.Steps.{state-child, state-replace, state-root}
 use Rattle.pointed.specs.Told.{upTold}
 
 -- ── in the mathematics ──
@@ -83,7 +84,7 @@ up-rooted (art.via k n b) ref old new e = e
 module _ {f : Frame} {words keys : List ℕ} {τ : Store Held} {links : Links} {root count : ℕ} (s : State f words keys τ links root count) where
   -- a reference to an inner record in use names its place
   pub inner-here : (ref : ℕ) → Used (τ (inner-place (ref % 8) (ref / 8))) → placeAt ref ≡ inner-place (ref % 8) (ref / 8)
-  inner-here ref u = inner-named ref (λ e. omega (arith, inner-kind (s .frame) (ref % 8) (ref / 8) (state-pool s (inner-place (ref % 8) (ref / 8)) u) .1))
+  inner-here ref u = inner-named ref (λ e. omega (arith, inner-kind (s .frame) (ref % 8) (ref / 8) (used-pool s (inner-place (ref % 8) (ref / 8)) u) .1))
 
   -- the record above fits the store before the writes, which have left it as it was
   pub up-there : (σ : Store Held) (up : Up) (y : Place) → UpSame σ τ (upTold up) → UpFits σ (upTold up) y → UpThere f words up

@@ -1,5 +1,5 @@
 -- Each step of the code's way, with places for references, is a step of the mathematics': the same tests of the same numbers, in the same order.
-use Prim.Native.Nat.{ℕ, zero, suc, _+_, _*_, _/_, _%_}
+use Prim.Native.Nat.{ℕ, suc, _+_, _*_, _/_, _%_}
 use mathlib.Core.Path.{_≡_, sym, ap, ap₂, _∙_}
 use mathlib.Core.Logic.{_⊎_, inl, inr, ite}
 use mathlib.Core.List.{List}
@@ -19,7 +19,7 @@ use Rattle.tree.specs.declared.answer.Found.{Found}
 use Rattle.tree.specs.declared.answer.Found.the-variants as found
 use Rattle.tree.specs.Arrive.{arrivalAt}
 use Rattle.tree.specs.declared.arrive.Arrival.{Arrival}
-use Rattle.points.specs.Point.{leafPoint, lowestOf, forkPoint, childStep, runStep, stepFrom, stepOf, endedOf, pointFrom}
+use Rattle.points.specs.Point.{leafPoint, lowestOf, forkPoint, childStep, runStep, stepFrom, stepOf, pointFrom}
 use Rattle.points.specs.declared.insert_point.Up.{Up}
 use Rattle.points.specs.declared.insert_point.Up.the-variants.{Via}
 use Rattle.points.specs.declared.insert_point.Point.{Point}
@@ -71,11 +71,6 @@ module _ (f : Frame) (words keys tag : List ℕ) where
       → pointFrom f words keys tag (suc left) ref d upper up ≡ after (λ r e b. pointFrom f words keys tag left r e up (Via ref b)) s
   unfolding pointFrom after
   way-on left ref d upper up s e = ap (after (λ r e b. pointFrom f words keys tag left r e up (Via ref b))) e
-
-  pub way-end : (left ref d : ℕ) (upper up : Up) (p : Point) → stepOf f words keys tag left ref d upper up ≡ Final p → pointFrom f words keys tag left ref d upper up ≡ p
-  unfolding pointFrom after
-  way-end zero ref d upper up p e = ap endedOf e
-  way-end (suc left) ref d upper up p e = ap (after (λ r e b. pointFrom f words keys tag left r e up (Via ref b))) e
 
   pub step-by : (left ref d : ℕ) (upper up : Up) (a : Arrival) → arrivalAt f words keys left (placeAt ref) ≡ a → stepOf f words keys tag left ref d upper up ≡ stepFrom f words keys tag ref d upper up a
   unfolding stepOf

@@ -1,5 +1,5 @@
 -- A point with places for references: the mathematics' point.
-use Prim.Native.Nat.{ℕ, _/_, _%_}
+use Prim.Native.Nat.{_/_, _%_}
 use Rattle.frames.specs.Place.{placeAt}
 use Rattle.art.specs.Points as art
 use Rattle.points.specs.declared.insert_point.Up.{Up}

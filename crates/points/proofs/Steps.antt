@@ -228,19 +228,19 @@ module _ (f : Frame) (words keys tag : List ℕ) where
       from-depth (arrivalAt f words keys left (placeAt ref)) ref d upper up r e b (step-by left ref d upper up _ refl ∙ q)
 
   -- ---- the way goes on where a step does, and ends where it does
-  go-on : ℕ → ℕ → Up → Step → Point
+  abbrev pub go-on : ℕ → ℕ → Up → Step → Point
   go-on left ref up s = elim s [ Next r e b ↦ pointFrom f words keys tag left r e up (Via ref b) | Final p ↦ p ]
 
   pub point-next : (left ref d : ℕ) (upper up : Up) (r e b : ℕ) → 0 < left → stepOf f words keys tag left ref d upper up ≡ Next r e b
       → pointFrom f words keys tag left ref d upper up ≡ pointFrom f words keys tag (left - 1) r e up (Via ref b)
-  unfolding pointFrom go-on
+  unfolding pointFrom
   point-next zero ref d upper up r e b h q = absurd (omega arith)
   point-next (suc left) ref d upper up r e b h q =
       ap (go-on left ref up) q ∙ ap (λ (n : ℕ). pointFrom f words keys tag n r e up (Via ref b)) (let z : left ≡ suc left - 1 = omega arith in z)
 
   pub point-end : (left ref d : ℕ) (upper up : Up) (p : Point) → stepOf f words keys tag left ref d upper up ≡ Final p
       → pointFrom f words keys tag left ref d upper up ≡ p
-  unfolding pointFrom go-on
+  unfolding pointFrom
   point-end zero ref d upper up p e = ap endedOf e
   point-end (suc left) ref d upper up p e = ap (go-on left ref up) e
 

@@ -32,13 +32,13 @@ use Rattle.points.specs.Point.{leafPoint, lowestOf, leafRef, runOf, fork
 use Rattle.points.specs.There.{InnerHere, HasChild, UpThere, PointThere}
 use Rattle.points.specs.declared.insert_point.Up.{Up}
 use Rattle.points.specs.declared.insert_point.Up.the-variants.{Top, Via}
-use Rattle.points.specs.declared.insert_point.Point.{Point}
 use Rattle.points.specs.declared.insert_point.Point.the-variants.{Holds, Clash, Into, Fork, Broken}
 use Rattle.points.specs.declared.insert_point.Step.{Step}
 use Rattle.points.specs.declared.insert_point.Step.the-variants.{Next, Final}
 use Rattle.points.specs.declared.insert_point.Run.{Run}
 use Rattle.points.specs.declared.insert_point.Run.the-variants.{Agrees, Lost}
 use Rattle.points.proofs.Below.{lowest-seen}
+use Rattle.points.proofs.Steps.{go-on}
 
 -- ---- an inner record that is arrived at is the one that the reference names
 record Named (f : Frame) (words : List ℕ) (x : Place) (k start : ℕ) : Type 0 where
@@ -148,19 +148,15 @@ module _ {f : Frame} {words keys : List ℕ} (w : FrameOf f words keys) (tag : L
   ended-stands ref (Next r e b) h = tt
   ended-stands ref (Final p) h = h
 
-  go-on : ℕ → ℕ → Up → Step → Point
-  go-on left ref up s = elim s [ Next r e b ↦ pointFrom f words keys tag left r e up (Via ref b) | Final p ↦ p ]
-
   abbrev Stands : ℕ → Type 0
   Stands left = (ref d : ℕ) (upper up : Up) → UpThere f words upper → UpThere f words up → PointThere f words keys tag (pointFrom f words keys tag left ref d upper up)
 
-  on-stands : (left : ℕ) → Stands left → (ref : ℕ) (up : Up) → UpThere f words up → (s : Step) → StepThere ref s → PointThere f words keys tag (go-on left ref up s)
-  unfolding go-on
+  on-stands : (left : ℕ) → Stands left → (ref : ℕ) (up : Up) → UpThere f words up → (s : Step) → StepThere ref s → PointThere f words keys tag (go-on f words keys tag left ref up s)
   on-stands left ih ref up b (Next r e c) h = ih r e up (Via ref c) b h
   on-stands left ih ref up b (Final p) h = h
 
   from-stands : (left : ℕ) → Stands left
-  unfolding pointFrom go-on
+  unfolding pointFrom
   from-stands zero ref d upper up a b = ended-stands ref (stepOf f words keys tag 0 ref d upper up) (step-stands 0 ref d upper up a b)
   from-stands (suc left) ref d upper up a b =
       on-stands left (λ r e x y. from-stands left r e x y) ref up b (stepOf f words keys tag (suc left) ref d upper up) (step-stands (suc left) ref d upper up a b)

@@ -6,11 +6,11 @@ use mathlib.Core.Bool.{true}
 use native.Mathlib.Omega.{arith}
 use native.Mathlib.Decide.{decLt}
 use borrow.Author.Tests.{le-leb, leb-true}
-use lib.ListN.{length, getD, take, drop, replicate, length-append, length-take, length-drop, length-replicate, getD-replicate, take-append-drop, List·getD-append, List·getD-eq-default}
+use lib.ListN.{length, getD, take, drop, replicate, length-append, length-take, length-drop, take-append-drop, List·getD-append, List·getD-eq-default}
 use lib.Seq.{ext-getD, getD-take, getD-drop, getD-append-add, length-take-le, take-append-le, take-take, take-all}
 use lib.Dec.{leb}
 use Rattle.lists.specs.Scan.{all, atMost}
-use Rattle.lists.proofs.Tests.{and-both, all-at, all-by, all-append, all-take, zeros-all}
+use Rattle.lists.proofs.Tests.{and-both, all-at, all-by, all-append, all-take, zeros-all, zeros-at}
 use Rattle.prefix.specs.Run.{capped, eight}
 
 pub eight-length : (l : List ℕ) → length (eight l) ≡ 8
@@ -21,13 +21,6 @@ pub append-at : (l m : List ℕ) (i : ℕ) → length l ≤ i → getD (l ++ m) 
 append-at l m i h =
     let e : i ≡ length l + (i - length l) = omega arith in
     ap (λ (k : ℕ). getD (l ++ m) k 0) e ∙ getD-append-add l m (i - length l) 0
-
-zeros-at : (n i : ℕ) → getD {A = ℕ} (replicate n 0) i 0 ≡ 0
-zeros-at n i = go (decLt i n)
-  where
-    go : Dec (i < n) → getD {A = ℕ} (replicate n 0) i 0 ≡ 0
-    go (yes h) = getD-replicate n i 0 0 h
-    go (no h) = List·getD-eq-default {A = ℕ} (replicate n 0) 0 (omega (arith, length-replicate {A = ℕ} n 0))
 
 pub eight-at : (l : List ℕ) (i : ℕ) → i < 8 → getD (eight l) i 0 ≡ getD l i 0
 eight-at l i h = getD-take 8 (l ++ replicate 8 0) i 0 h ∙ go (decLt i (length l))

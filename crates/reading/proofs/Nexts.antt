@@ -8,6 +8,7 @@ use mathlib.Core.Bool.{Bool, true}
 use native.Mathlib.Omega.{arith}
 use borrow.Author.Tests.{ne-eqb}
 use lib.ListN.{length, getD}
+use Rattle.art.proofs.Leaves.{numbers-append}
 use Rattle.lists.specs.Scan.{choose}
 use Rattle.frames.specs.Place.{placeAt, inPool, startAt, recordAt}
 use Rattle.frames.specs.declared.frame.Frame.{Frame}
@@ -36,10 +37,6 @@ use Rattle.reading.proofs.Edges.{minimum-shown}
 
 abbrev numbersOf : Listing Held → List ℕ
 numbersOf l = numbers (λ (h : Held). h .number) l
-
-numbers-append : (l m : Listing Held) → numbersOf (l ++ m) ≡ numbersOf l ++ numbersOf m
-numbers-append [] m = refl
-numbers-append (e ∷ l) m = ap (λ (r : List ℕ). e .1 .number ∷ r) (numbers-append l m)
 
 next-word : (f : Frame) (words : List ℕ) (n : ℕ) → inPool f (leaf-place n) ≡ true → linksOf f words .next n ≡ getD (recordAt f words (leaf-place n)) 3 0
 unfolding linksOf
@@ -83,7 +80,7 @@ module _ {f : Frame} {words keys : List ℕ} {d : Option (Tree Held)} (s : Shown
       let n = e .1 .number in
       let within : (x : Tag × Held) → In x (e ∷ rest) → In x (held d) = λ x i. subst (In x) (sym q) (in-right x front (e ∷ rest) i) in
       let i = within e (inl refl) in
-      let order : leaves-of d ≡ numbersOf front ++ n ∷ numbersOf rest = sym (numbers-held s) ∙ ap numbersOf q ∙ numbers-append front (e ∷ rest) in
+      let order : leaves-of d ≡ numbersOf front ++ n ∷ numbersOf rest = sym (numbers-held s) ∙ ap numbersOf q ∙ numbers-append (λ (h : Held). h .number) front (e ∷ rest) in
       let link = linked-here (linksOf f words) (numbersOf front) n (numbersOf rest) (subst (Linked (linksOf f words) 0) order (s .linked)) in
       sym (next-by (s .frame) n _ (state e i))
       ∙ next-first rest (λ x j. within x (inr j)) (getD (recordAt f words (leaf-place n)) 3 0) (sym (next-word f words n (entry-seen s e i .pool)) ∙ link .1)

@@ -14,7 +14,6 @@ use lib.Dec.{eqb, ltb}
 use Rattle.lists.specs.Scan.{choose}
 use Rattle.lists.specs.Compare.{begins}
 use Rattle.lists.specs.Part.{between}
-use Rattle.lists.proofs.Scans.{pick}
 use Rattle.lists.proofs.Compares.{eq-same, ne-same, begins-rest, rest-begins, shared-le, shared-front, shared-more}
 use Rattle.lists.proofs.Parts.{between-drop}
 use Rattle.prefix.specs.Run.{capped, held}
@@ -164,8 +163,8 @@ module _ {f : Frame} {words keys : List ℕ} (w : FrameOf f words keys) (rules :
       at = ap (λ (y : ℕ × Place). y .1) (head-eq-of-cons-eq e)
 
       by : (u : Bool) → eqb (x .0) b ≡ u → (d : Dec (b ≡ c)) → ((refFor b row ≡ 0) × (walk-refs (refs r) b go ≡ none)) ⊎ Kid b (refFor b row) r go
-          → ((pick u (x .1) (refFor b row) ≡ 0) × (ite d (go (root t)) (walk-refs (refs r) b go) ≡ none))
-          ⊎ KidOf (pick u (x .1) (refFor b row)) (max (height t) (row-height r)) (ite d (go (root t)) (walk-refs (refs r) b go)) go
+          → ((choose u (x .1) (refFor b row) ≡ 0) × (ite d (go (root t)) (walk-refs (refs r) b go) ≡ none))
+          ⊎ KidOf (choose u (x .1) (refFor b row)) (max (height t) (row-height r)) (ite d (go (root t)) (walk-refs (refs r) b go)) go
       by true i (yes d) ih = inr (record { tree = t; path = q ++ c ∷ []; shows = h .0; low = omega arith; names = sym at; goes = refl })
       by true i (no d) ih = absurd (d (sym (eqb-true (x .0) b i) ∙ sym key))
       by false i (yes d) ih = absurd (eqb-false (x .0) b i (sym key ∙ sym d))

@@ -10,7 +10,6 @@ use lib.Dec.{eqb, leb, ltb, leb·suc-suc}
 use borrow.Author.Tests.{eq-eqb, ne-eqb, lt-ltb, eqb-true, eqb-false, ltb-true, ltb-false, leb-true, leb-false}
 use Rattle.lists.specs.Scan.{choose, is, atMost, nonzero, all, first, count, rises}
 use Rattle.lists.specs.Part.{between}
-use Rattle.lists.proofs.Scans.{pick}
 use Rattle.lists.proofs.Tests.{both, all-at}
 use Rattle.lists.proofs.Parts.{between-length, between-at}
 use Rattle.frames.specs.Kind.{childrenOf}
@@ -51,8 +50,8 @@ filled-length b [] = refl
 filled-length b (r ∷ rs) = go (nonzero r) refl (filled-length (suc b) rs)
   where
     go : (t : Bool) → nonzero r ≡ t → length (filled (suc b) rs) ≡ count nonzero rs → length (filled b (r ∷ rs)) ≡ count nonzero (r ∷ rs)
-    go true e ih = ap length (filled-holds b r rs e) ∙ ap suc ih ∙ ap (λ (t : Bool). pick t (suc (count nonzero rs)) (count nonzero rs)) (sym e)
-    go false e ih = ap length (filled-skips b r rs e) ∙ ih ∙ ap (λ (t : Bool). pick t (suc (count nonzero rs)) (count nonzero rs)) (sym e)
+    go true e ih = ap length (filled-holds b r rs e) ∙ ap suc ih ∙ ap (λ (t : Bool). choose t (suc (count nonzero rs)) (count nonzero rs)) (sym e)
+    go false e ih = ap length (filled-skips b r rs e) ∙ ih ∙ ap (λ (t : Bool). choose t (suc (count nonzero rs)) (count nonzero rs)) (sym e)
 
 -- ---- the child for a byte, looked up in the row
 beside-for : (b : ℕ) (ks rs : List ℕ) → length ks ≡ length rs
@@ -62,7 +61,7 @@ beside-for b (k ∷ ks) [] e = absurd (omega arith)
 beside-for b (k ∷ ks) (r ∷ rs) e = go (eqb k b) (beside-for b ks rs (omega arith))
   where
     go : (t : Bool) → choose (ltb (first (is b) ks) (length ks)) (getD rs (first (is b) ks) 0) 0 ≡ refFor b (beside ks rs)
-        → choose (ltb (pick t 0 (suc (first (is b) ks))) (suc (length ks))) (getD (r ∷ rs) (pick t 0 (suc (first (is b) ks))) 0) 0 ≡ pick t r (refFor b (beside ks rs))
+        → choose (ltb (choose t 0 (suc (first (is b) ks))) (suc (length ks))) (getD (r ∷ rs) (choose t 0 (suc (first (is b) ks))) 0) 0 ≡ choose t r (refFor b (beside ks rs))
     go true ih = simp (lt-ltb 0 (suc (length ks)) (omega arith))
     go false ih = simp (leb·suc-suc (suc (first (is b) ks)) (length ks)) ih
 
@@ -86,14 +85,14 @@ sorted-for k body n b long h =
 pub climbs-none : (lo b : ℕ) (es : List (ℕ × ℕ)) → Climbs lo es → b < lo → refFor b es ≡ 0
 climbs-none lo b [] c h = refl
 climbs-none lo b (e ∷ es) c h =
-    ap (λ (t : Bool). pick t (e .1) (refFor b es)) (ne-eqb (e .0) b (λ z. omega (arith, c .0 .low))) ∙ climbs-none (suc (e .0)) b es (c .1) (omega (arith, c .0 .low))
+    ap (λ (t : Bool). choose t (e .1) (refFor b es)) (ne-eqb (e .0) b (λ z. omega (arith, c .0 .low))) ∙ climbs-none (suc (e .0)) b es (c .1) (omega (arith, c .0 .low))
 
 filled-for : (a i : ℕ) (l : List ℕ) → a + length l ≤ 256 → refFor (a + i) (filled a l) ≡ getD l i 0
 filled-for a i [] h = refl
 filled-for a zero (r ∷ rs) h = go (nonzero r) refl
   where
     go : (t : Bool) → nonzero r ≡ t → refFor (a + 0) (filled a (r ∷ rs)) ≡ r
-    go true e = ap (refFor (a + 0)) (filled-holds a r rs e) ∙ ap (λ (t : Bool). pick t r (refFor (a + 0) (filled (suc a) rs))) (eq-eqb a (a + 0) (omega arith))
+    go true e = ap (refFor (a + 0)) (filled-holds a r rs e) ∙ ap (λ (t : Bool). choose t r (refFor (a + 0) (filled (suc a) rs))) (eq-eqb a (a + 0) (omega arith))
     go false e =
         ap (refFor (a + 0)) (filled-skips a r rs e) ∙ climbs-none (suc a) (a + 0) (filled (suc a) rs) (filled-climbs (suc a) rs (omega arith)) (omega arith) ∙ omega (arith, ltb-false 0 r e)
 filled-for a (suc i) (r ∷ rs) h =
@@ -101,7 +100,7 @@ filled-for a (suc i) (r ∷ rs) h =
   where
     go : (t : Bool) → nonzero r ≡ t → refFor (a + suc i) (filled (suc a) rs) ≡ getD rs i 0 → refFor (a + suc i) (filled a (r ∷ rs)) ≡ getD rs i 0
     go true e ih =
-        ap (refFor (a + suc i)) (filled-holds a r rs e) ∙ ap (λ (t : Bool). pick t r (refFor (a + suc i) (filled (suc a) rs))) (ne-eqb a (a + suc i) (λ e. omega arith)) ∙ ih
+        ap (refFor (a + suc i)) (filled-holds a r rs e) ∙ ap (λ (t : Bool). choose t r (refFor (a + suc i) (filled (suc a) rs))) (ne-eqb a (a + suc i) (λ e. omega arith)) ∙ ih
     go false e ih = ap (refFor (a + suc i)) (filled-skips a r rs e) ∙ ih
 
 -- ---- each kind's row, by its body's rule

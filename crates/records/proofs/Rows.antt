@@ -10,7 +10,7 @@ use lib.Dec.{leb, ltb, leb·suc-suc}
 use borrow.Author.Tests.{eq-eqb, ne-eqb, lt-ltb, le-ltb, le-leb, lt-leb, ltb-true, ltb-false, leb-true}
 use Rattle.lists.specs.Scan.{choose, atMost, atLeast, nonzero, all, first, past, onward, nth}
 use Rattle.lists.specs.Part.{between}
-use Rattle.lists.proofs.Scans.{pick, nth-skips, nth-counts, nth-here}
+use Rattle.lists.proofs.Scans.{nth-skips, nth-counts, nth-here}
 use Rattle.lists.proofs.Tests.{all-at, first-le, past-le}
 use Rattle.lists.proofs.Parts.{between-length, between-at, between-drop}
 use Rattle.records.specs.Own.{named, byslot, SlotsFit, indirectChild}
@@ -22,10 +22,6 @@ use Rattle.records.proofs.Slots.{slot-filled}
 
 abbrev Pairs : Type 0
 Pairs = List (ℕ × ℕ)
-
--- the form of a definition by `elim`, so that a test in it can be named
-abbrev pub case : {A : Type 0} → Bool → A → A → A
-case b x y = elim b [ true ↦ x | false ↦ y ]
 
 -- ---- any row
 pub entry-out : (es : Pairs) (i : ℕ) → length es ≤ i → entryAt i es ≡ Nothing
@@ -71,7 +67,7 @@ beside-from b (k ∷ ks) [] = refl
 beside-from b (k ∷ ks) (r ∷ rs) = go (leb b k) (beside-from b ks rs)
   where
     go : (t : Bool) → entryFrom b (beside ks rs) ≡ entryAt (first (atLeast b) ks) (beside ks rs)
-        → case t (Child k r) (entryFrom b (beside ks rs)) ≡ entryAt (pick t 0 (suc (first (atLeast b) ks))) ((k, r) ∷ beside ks rs)
+        → choose t (Child k r) (entryFrom b (beside ks rs)) ≡ entryAt (choose t 0 (suc (first (atLeast b) ks))) ((k, r) ∷ beside ks rs)
     go true ih = refl
     go false ih = ih
 
@@ -124,10 +120,10 @@ placed-here b r rs =
 
 module _ (b r : ℕ) (rs : List ℕ) where
   pub filled-skips : nonzero r ≡ false → filled b (r ∷ rs) ≡ filled (suc b) rs
-  filled-skips e = ap (λ (t : Bool). case {A = Pairs} t (filled (suc b) rs) ((b, r) ∷ filled (suc b) rs)) (eq-eqb r 0 (omega (arith, ltb-false 0 r e)))
+  filled-skips e = ap (λ (t : Bool). choose {A = Pairs} t (filled (suc b) rs) ((b, r) ∷ filled (suc b) rs)) (eq-eqb r 0 (omega (arith, ltb-false 0 r e)))
 
   pub filled-holds : nonzero r ≡ true → filled b (r ∷ rs) ≡ (b, r) ∷ filled (suc b) rs
-  filled-holds e = ap (λ (t : Bool). case {A = Pairs} t (filled (suc b) rs) ((b, r) ∷ filled (suc b) rs)) (ne-eqb r 0 (λ z. omega (arith, ltb-true 0 r e)))
+  filled-holds e = ap (λ (t : Bool). choose {A = Pairs} t (filled (suc b) rs) ((b, r) ∷ filled (suc b) rs)) (ne-eqb r 0 (λ z. omega (arith, ltb-true 0 r e)))
 
 pub filled-at : (n b : ℕ) (l : List ℕ) → entryAt n (filled b l) ≡ placed b l (nth nonzero n l)
 filled-at n b [] = refl
@@ -150,14 +146,14 @@ filled-all lo b (r ∷ rs) h = go (nonzero r) refl (filled-all lo (suc b) rs (om
         → entryFrom lo (filled b (r ∷ rs)) ≡ placed b (r ∷ rs) (first nonzero (r ∷ rs))
     go true e ih =
         ap (entryFrom lo) (filled-holds b r rs e)
-        ∙ ap (λ (t : Bool). case t (Child b r) (entryFrom lo (filled (suc b) rs))) (le-leb lo b h)
+        ∙ ap (λ (t : Bool). choose t (Child b r) (entryFrom lo (filled (suc b) rs))) (le-leb lo b h)
         ∙ placed-here b r rs
-        ∙ ap (λ (t : Bool). placed b (r ∷ rs) (pick t 0 (suc (first nonzero rs)))) (sym e)
+        ∙ ap (λ (t : Bool). placed b (r ∷ rs) (choose t 0 (suc (first nonzero rs)))) (sym e)
     go false e ih =
         ap (entryFrom lo) (filled-skips b r rs e)
         ∙ ih
         ∙ placed-on b r rs (first nonzero rs)
-        ∙ ap (λ (t : Bool). placed b (r ∷ rs) (pick t 0 (suc (first nonzero rs)))) (sym e)
+        ∙ ap (λ (t : Bool). placed b (r ∷ rs) (choose t 0 (suc (first nonzero rs)))) (sym e)
 
 pub filled-from : (j b : ℕ) (l : List ℕ) → entryFrom (b + j) (filled b l) ≡ placed b l (j + first nonzero (drop j l))
 filled-from zero b l =
@@ -176,7 +172,7 @@ filled-from (suc j) b (r ∷ rs) =
         → entryFrom (b + suc j) (filled b (r ∷ rs)) ≡ placed b (r ∷ rs) (suc j + found)
     go true e ih =
         ap (entryFrom (b + suc j)) (filled-holds b r rs e)
-        ∙ ap (λ (t : Bool). case t (Child b r) (entryFrom (b + suc j) (filled (suc b) rs))) (lt-leb (b + suc j) b (omega arith))
+        ∙ ap (λ (t : Bool). choose t (Child b r) (entryFrom (b + suc j) (filled (suc b) rs))) (lt-leb (b + suc j) b (omega arith))
         ∙ ih
         ∙ on
     go false e ih = ap (entryFrom (b + suc j)) (filled-skips b r rs e) ∙ ih ∙ on

@@ -11,7 +11,7 @@ use lib.Seq.{getD-set-same, getD-set-other}
 use lib.Dec.{eqb, leb, ltb}
 use borrow.Author.Tests.{eq-eqb, ne-eqb, eqb-true, eqb-false, lt-ltb, ltb-true, ltb-false, le-leb, leb-true, leb-false}
 use Rattle.lists.specs.Scan.{choose, is, nonzero, count}
-use Rattle.lists.proofs.Scans.{step, pick, Count, count-start, count-on, count-off, count-end}
+use Rattle.lists.proofs.Scans.{step, Count, count-start, count-on, count-off, count-end}
 use Rattle.lists.proofs.Tests.{both, count-none}
 use Rattle.records.specs.Own.{named, Tallied, byslot}
 
@@ -82,12 +82,12 @@ tallied-test {slots} {t} w j next r f e h q =
 -- ---- what the rule says
 -- a test that is one of two others that exclude each other
 module _ (p q r : ℕ → Bool) where
-  count-split : (l : List ℕ) → ((x : ℕ) → pick (p x) 1 0 ≡ pick (q x) 1 0 + pick (r x) 1 0) → count p l ≡ count q l + count r l
+  count-split : (l : List ℕ) → ((x : ℕ) → choose (p x) 1 0 ≡ choose (q x) 1 0 + choose (r x) 1 0) → count p l ≡ count q l + count r l
   count-split [] h = refl
   count-split (x ∷ xs) h = go (p x) (q x) (r x) (h x) (count-split xs h)
     where
-      go : (a b c : Bool) → pick a 1 0 ≡ pick b 1 0 + pick c 1 0 → count p xs ≡ count q xs + count r xs
-          → pick a (suc (count p xs)) (count p xs) ≡ pick b (suc (count q xs)) (count q xs) + pick c (suc (count r xs)) (count r xs)
+      go : (a b c : Bool) → choose a 1 0 ≡ choose b 1 0 + choose c 1 0 → count p xs ≡ count q xs + count r xs
+          → choose a (suc (count p xs)) (count p xs) ≡ choose b (suc (count q xs)) (count q xs) + choose c (suc (count r xs)) (count r xs)
       go true true true e ih = absurd (omega arith)
       go true true false e ih = omega arith
       go true false true e ih = omega arith
@@ -99,10 +99,10 @@ module _ (p q r : ℕ → Bool) where
 
 pub count-has : (p : ℕ → Bool) (l : List ℕ) (i : ℕ) → i < length l → p (getD l i 0) ≡ true → 0 < count p l
 count-has p [] i h e = absurd (omega arith)
-count-has p (x ∷ xs) zero h e = subst (λ (b : Bool). 0 < pick b (suc (count p xs)) (count p xs)) (sym e) (omega arith)
+count-has p (x ∷ xs) zero h e = subst (λ (b : Bool). 0 < choose b (suc (count p xs)) (count p xs)) (sym e) (omega arith)
 count-has p (x ∷ xs) (suc i) h e = go (p x) (count-has p xs i (omega arith) e)
   where
-    go : (b : Bool) → 0 < count p xs → 0 < pick b (suc (count p xs)) (count p xs)
+    go : (b : Bool) → 0 < count p xs → 0 < choose b (suc (count p xs)) (count p xs)
     go true ih = omega arith
     go false ih = ih
 
@@ -110,11 +110,11 @@ count-has p (x ∷ xs) (suc i) h e = go (p x) (count-has p xs i (omega arith) e)
 abbrev pub within : ℕ → ℕ → ℕ → Bool
 within j m s = ltb j s && leb s (j + m)
 
-within-split : (j m x : ℕ) → pick (within j (suc m) x) 1 0 ≡ pick (is (j + 1) x) 1 0 + pick (within (j + 1) m x) 1 0
+within-split : (j m x : ℕ) → choose (within j (suc m) x) 1 0 ≡ choose (is (j + 1) x) 1 0 + choose (within (j + 1) m x) 1 0
 within-split j m x = go (ltb j x) refl (leb x (j + suc m)) refl (eqb x (j + 1)) refl (ltb (j + 1) x) refl (leb x (j + 1 + m)) refl
   where
     go : (a : Bool) → ltb j x ≡ a → (b : Bool) → leb x (j + suc m) ≡ b → (c : Bool) → eqb x (j + 1) ≡ c → (d : Bool) → ltb (j + 1) x ≡ d → (e : Bool) → leb x (j + 1 + m) ≡ e
-        → pick (a && b) 1 0 ≡ pick c 1 0 + pick (d && e) 1 0
+        → choose (a && b) 1 0 ≡ choose c 1 0 + choose (d && e) 1 0
     go true ea b eb true ec true ed e ee = absurd (omega (arith, eqb-true x (j + 1) ec, ltb-true (j + 1) x ed))
     go true ea true eb true ec false ed e ee = refl
     go true ea false eb true ec false ed e ee = absurd (omega (arith, eqb-true x (j + 1) ec, leb-false x (j + suc m) eb))
@@ -142,7 +142,7 @@ named-count slots j (r ∷ rs) h =
     go (nonzero r) (eqb-true _ _ (p .0)) (count-split (within j (suc (length rs))) (is (j + 1)) (within (j + 1) (length rs)) slots (within-split j (length rs))) (named-count slots (j + 1) rs (p .1))
   where
     go : (b : Bool) → count (is (j + 1)) slots ≡ choose b 1 0 → count (within j (suc (length rs))) slots ≡ count (is (j + 1)) slots + count (within (j + 1) (length rs)) slots
-        → count (within (j + 1) (length rs)) slots ≡ count nonzero rs → count (within j (suc (length rs))) slots ≡ pick b (suc (count nonzero rs)) (count nonzero rs)
+        → count (within (j + 1) (length rs)) slots ≡ count nonzero rs → count (within j (suc (length rs))) slots ≡ choose b (suc (count nonzero rs)) (count nonzero rs)
     go true a b c = omega arith
     go false a b c = omega arith
 

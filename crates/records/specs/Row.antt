@@ -2,7 +2,6 @@
 use Prim.Native.Nat.{ℕ, zero, suc, _+_, _≤_, _<_}
 use mathlib.Core.Path.{_≡_}
 use mathlib.Core.List.{List, [], _∷_}
-use mathlib.Core.Bool.{true, false}
 use lib.ListN.{length, getD}
 use lib.Dec.{eqb, leb}
 use Rattle.lists.specs.Scan.{choose}
@@ -22,7 +21,7 @@ beside (k ∷ ks) (r ∷ rs) = (k, r) ∷ beside ks rs
 -- the places that are not 0, the first of them for byte b
 abbrev pub filled : ℕ → List ℕ → List (ℕ × ℕ)
 filled b [] = []
-filled b (r ∷ rs) = elim (eqb r 0) [ true ↦ filled (suc b) rs | false ↦ (b, r) ∷ filled (suc b) rs ]
+filled b (r ∷ rs) = choose (eqb r 0) (filled (suc b) rs) ((b, r) ∷ filled (suc b) rs)
 
 -- for each slot number the reference that it names
 abbrev pub spread : List ℕ → List ℕ → List ℕ
@@ -60,7 +59,7 @@ entryAt (suc n) (e ∷ es) = entryAt n es
 -- the first at or after byte b
 abbrev pub entryFrom : ℕ → List (ℕ × ℕ) → Entry
 entryFrom b [] = Nothing
-entryFrom b (e ∷ es) = elim (leb b (e .0)) [ true ↦ entry e | false ↦ entryFrom b es ]
+entryFrom b (e ∷ es) = choose (leb b (e .0)) (entry e) (entryFrom b es)
 
 -- the last
 abbrev pub lastEntry : List (ℕ × ℕ) → Entry
@@ -71,7 +70,7 @@ lastEntry (e ∷ f ∷ es) = lastEntry (f ∷ es)
 -- the reference for a byte, 0 where there is none
 abbrev pub refFor : ℕ → List (ℕ × ℕ) → ℕ
 refFor b [] = 0
-refFor b (e ∷ es) = elim (eqb (e .0) b) [ true ↦ e .1 | false ↦ refFor b es ]
+refFor b (e ∷ es) = choose (eqb (e .0) b) (e .1) (refFor b es)
 
 -- ── what a row is, of a record that obeys its rule ──
 -- a child: its byte is lo or more and below 256, its reference not 0

@@ -12,7 +12,7 @@ use Rattle.frames.specs.declared.frame.Caps.{Caps}
 use Rattle.frames.specs.declared.frame.Frame.{Frame}
 use Rattle.records.specs.View.{Held, cellOf}
 use Rattle.art.specs.Trees.{Tree}
-use Rattle.art.specs.Drawings.{Drawing, nothing, one, branch, Kids, done, kid, erase}
+use Rattle.art.specs.Drawings.{Drawing, nothing, one, branch, done, kid, erase}
 use Rattle.art.specs.ReadBack.{read, tree-of}
 use Rattle.pools.specs.Start as starts
 use Rattle.tree.specs.Answer.{foundNumber, foundLeaf, foundTotal}

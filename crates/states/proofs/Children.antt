@@ -8,7 +8,7 @@ use mathlib.Core.Bool.{Bool}
 use native.Mathlib.Decide.{ℕ-discrete}
 use native.Mathlib.Omega.{arith}
 use borrow.Author.Tests.{eq-eqb}
-use Rattle.lists.proofs.Scans.{pick}
+use Rattle.lists.specs.Scan.{choose}
 use Rattle.frames.specs.Place.{placeAt}
 use Rattle.records.specs.Row.{refFor, Climbs}
 use Rattle.records.specs.View.{places}
@@ -39,7 +39,7 @@ module _ (b : ℕ) where
       go : (d : Dec (b ≡ e .0)) → (find-ref (places es) b ≡ some y → (b < 256) × (0 < refFor b es)) → ite d (some (placeAt (e .1))) (find-ref (places es) b) ≡ some y
           → (b < 256) × (0 < refFor b (e ∷ es))
       go (yes q) ih g =
-          let r : refFor b (e ∷ es) ≡ e .1 = ap (λ (t : Bool). pick t (e .1) (refFor b es)) (eq-eqb (e .0) b (sym q)) in
+          let r : refFor b (e ∷ es) ≡ e .1 = ap (λ (t : Bool). choose t (e .1) (refFor b es)) (eq-eqb (e .0) b (sym q)) in
           (omega (arith, c .0 .byte), omega (arith, c .0 .some))
       go (no n) ih g =
           let i = ih g in

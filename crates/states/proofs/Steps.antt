@@ -7,7 +7,7 @@ use mathlib.Core.Option.{none, some}
 use mathlib.Core.Bool.{true}
 use native.Mathlib.Omega.{arith}
 use lib.ListN.{length, getD, take, set, replicate, length-replicate}
-use Rattle.lists.proofs.Tests.{zeros-all}
+use Rattle.lists.proofs.Tests.{zeros-all, zeros-at}
 use Rattle.prefix.specs.Run.{held}
 use Rattle.prefix.specs.declared.Prefix.{Prefix}
 use Rattle.frames.specs.Kind.{childrenOf}
@@ -35,7 +35,7 @@ use Rattle.pools.specs.Leaf.{leafWords, setTotal}
 use Rattle.pools.specs.Link.{setTrailer}
 use Rattle.view.specs.Cells.{wordZero}
 use Rattle.view.specs.Links.{UsedOrEnd}
-use Rattle.view.proofs.Views.{cell-free, free-cell, zero-first}
+use Rattle.view.proofs.Views.{cell-free, free-cell}
 use Rattle.view.proofs.Puts.{put-keeps, put-fits, put-trailer}
 use Rattle.view.proofs.Leaves.{words-long, words-cell, words-rule, bytes-long, total-long, total-rule, total-cell}
 use Rattle.view.proofs.Chains.{total-links}
@@ -47,16 +47,12 @@ use Rattle.writes.specs.Leaf.{leafIn, keyIn, leafOut, keyOut, totalAt}
 use Rattle.writes.proofs.Spots.{frame-eight}
 use Rattle.states.specs.State.{State}
 use Rattle.states.proofs.Children.{find-none, find-some}
-use Rattle.states.proofs.OneCell.{used-pool, state-changed, inner-state, inner-put}
+use Rattle.states.proofs.OneCell.{state-changed, inner-state, inner-put}
 use Rattle.states.proofs.Standing.{ref-some, stands, shown-at, leaf-seen, leaf-stands, kept-end}
 use Rattle.states.proofs.Links.{trailer-state, next-state, previous-state, leaf-state}
 
 module _ {f : Frame} {words keys : List ℕ} {σ : Store Held} {links : Links} {root count : ℕ} (s : State f words keys σ links root count) where
   -- ── what is there ──
-  -- a used place is in its pool
-  pub state-pool : (x : Place) → Used (σ x) → inPool f x ≡ true
-  state-pool = used-pool s
-
   -- an inner record: it is there, with its child count, its length and its stored bytes
   pub state-here : (k n len : ℕ) (st : List ℕ) (rs : Refs) → σ (inner-place k n) ≡ inner-cell len st rs → InnerHere f words (inner-place k n)
   state-here k n len st rs e = let h = stands s k n len st rs e in record { pool = h .pool; fits = h .own .fits }
@@ -204,7 +200,7 @@ module _ {f : Frame} {words keys : List ℕ} {σ : Store Held} {links : Links} {
   state-clear k n pool =
       let size = recordWords (f .form) k in
       let z : List ℕ = replicate size 0 in
-      inner-state s k n z pool (length-replicate size 0) unused (free-cell f (inner-place k n) z [] (zero-first size)) (λ u. absurd u) (λ e. zeros-all size 0)
+      inner-state s k n z pool (length-replicate size 0) unused (free-cell f (inner-place k n) z [] (zeros-at size 0)) (λ u. absurd u) (λ e. zeros-all size 0)
 
   -- ── the trailer ──
   pub state-root : (r : ℕ) → State f (setTrailer 11 r words) keys σ links r count

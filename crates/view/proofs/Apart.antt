@@ -5,7 +5,6 @@ use mathlib.Core.Logic.{_⊎_, inl, inr, _≢_}
 use mathlib.Core.List.{List}
 use mathlib.Core.Bool.{true}
 use native.Mathlib.Omega.{arith}
-use native.Mathlib.Nat.{mul-le-mul-right}
 use borrow.Author.Tests.{ltb-true, leb-true}
 use lib.ListN.{getD}
 use lib.Dec.{leb, ltb}
@@ -16,15 +15,11 @@ use Rattle.frames.specs.declared.form.Sizes.{Sizes}
 use Rattle.frames.specs.declared.frame.Caps.{Caps}
 use Rattle.frames.specs.declared.frame.Frame.{Frame}
 use Rattle.frames.proofs.KindTable.{by-kind}
-use Rattle.frames.proofs.Frames.{framed, frame-size, leaf-size}
+use Rattle.frames.proofs.Frames.{framed, frame-size, leaf-size, nth-ends}
 use Rattle.frames.proofs.Places.{inner-kind}
 use Rattle.art.specs.Stores.{Place, leaf-place, inner-place}
 use Rattle.art.specs.Tags.{Order, order, below, equal, above}
 use Rattle.view.specs.Cells.{kindAt, numberAt}
-
--- a record ends before a later one begins
-record-next : (n m size : ℕ) → n < m → n * size + size ≤ m * size
-record-next n m size h = let e : suc n * size ≤ m * size = mul-le-mul-right size h in omega arith
 
 module _ (z : Sizes) (c : Caps) where
   -- a pool ends where the next begins
@@ -45,7 +40,7 @@ module _ (z : Sizes) (c : Caps) where
       let s =
       subst (λ (i : ℕ). getD (startsList z c) (suc k) 0 ≤ getD (startsList z c) i 0) (let e : suc k + (j - suc k) ≡ j = omega arith in e)
       (starts-up (suc k) (j - suc k) (omega arith) (omega arith)) in
-      omega (arith, s, pool-next k l (omega arith), record-next n (getD (capsList c) k 0) (getD (sizesList z) k 0) a)
+      omega (arith, s, pool-next k l (omega arith), nth-ends n (getD (capsList c) k 0) (getD (sizesList z) k 0) a)
 
 pub same-place : (f : Frame) (x y : Place) → inPool f x ≡ true → inPool f y ≡ true → kindAt x ≡ kindAt y → numberAt x ≡ numberAt y → x ≡ y
 same-place f (leaf-place n) (leaf-place m) h i a b = ap leaf-place b
@@ -111,7 +106,7 @@ module _ {f : Frame} {words keys : List ℕ} (w : FrameOf f words keys) where
             start-at f a,
             start-at f b,
             pa .size,
-            record-next (numberAt a) (numberAt b) (getD (f .sizes) (kindAt a) 0) l,
+            nth-ends (numberAt a) (numberAt b) (getD (f .sizes) (kindAt a) 0) l,
             ap (λ (k : ℕ). getD (f .starts) k 0 + numberAt b * getD (f .sizes) k 0) e,
           )
 
@@ -130,6 +125,6 @@ pub keys-apart : (limit n m : ℕ) → n ≢ m → (n * limit + limit ≤ m * li
 keys-apart limit n m ne = go (order n m)
   where
     go : Order n m → (n * limit + limit ≤ m * limit) ⊎ (m * limit + limit ≤ n * limit)
-    go (below l) = inl (record-next n m limit l)
+    go (below l) = inl (nth-ends n m limit l)
     go (equal e) = absurd (ne e)
-    go (above l) = inr (record-next m n limit l)
+    go (above l) = inr (nth-ends m n limit l)

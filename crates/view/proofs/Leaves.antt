@@ -10,7 +10,7 @@ use lib.Dec.{eqb, leb}
 use borrow.Author.Tests.{le-leb, ne-eqb}
 use Rattle.lists.specs.Scan.{choose, all, atMost}
 use Rattle.lists.specs.Part.{between}
-use Rattle.lists.proofs.Tests.{and-both, all-take, zeros-all}
+use Rattle.lists.proofs.Tests.{and-both, all-take, zeros-all, zeros-at}
 use Rattle.frames.specs.Form.{recordWords}
 use Rattle.frames.specs.Frame.{FrameOf}
 use Rattle.records.specs.Own.{leafOk, totalOf}
@@ -21,7 +21,7 @@ use Rattle.frames.proofs.Places.{record-length}
 use Rattle.art.specs.Stores.{Place, leaf-place, inner-place, unused, leaf-cell, write}
 use Rattle.lists.specs.Edit.{padded}
 use Rattle.pools.specs.Leaf.{leafWords, setTotal}
-use Rattle.view.proofs.Views.{zero-first, free-cell}
+use Rattle.view.proofs.Views.{free-cell}
 use Rattle.view.proofs.Puts.{put-same, put-cell}
 use Rattle.view.proofs.Keys.{key-same, leaf-view}
 use Rattle.view.proofs.Seen.{seen-leaf}
@@ -146,7 +146,7 @@ module _ {f : Frame} {words keys : List ℕ} (w : FrameOf f words keys) (x : Pla
   pub clear-cell : cellOf f (putAt f words x (replicate (sizeAt f x) 0)) keys ≡ write (cellOf f words keys) x unused
   clear-cell =
       put-cell w x (replicate (sizeAt f x) 0) hx (length-replicate (sizeAt f x) 0)
-      ∙ ap (write (cellOf f words keys) x) (free-cell f x (replicate (sizeAt f x) 0) (keyFor f keys x) (zero-first (sizeAt f x)))
+      ∙ ap (write (cellOf f words keys) x) (free-cell f x (replicate (sizeAt f x) 0) (keyFor f keys x) (zeros-at (sizeAt f x) 0))
 
 pub clear-blank : {f : Frame} {words keys : List ℕ} → FrameOf f words keys → (k n : ℕ) → inPool f (inner-place k n) ≡ true
     → blankAt f (putAt f words (inner-place k n) (replicate (recordWords (f .form) k) 0)) keys (inner-place k n) ≡ true

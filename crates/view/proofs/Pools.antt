@@ -9,6 +9,7 @@ use native.Mathlib.Decide.{ℕ-discrete}
 use lib.ListN.{getD}
 use lib.Dec.{eqb, leb, ltb}
 use borrow.Author.Tests.{eqb-true, eqb-false, ltb-false, leb-true, lt-ltb, le-leb}
+use Rattle.lists.specs.Scan.{choose}
 use Rattle.lists.proofs.Tests.{both, and-both}
 use Rattle.lists.proofs.Parts.{between-at}
 use Rattle.frames.specs.Place.{inPool, startAt, sizeAt}
@@ -20,16 +21,13 @@ use Rattle.view.specs.Cells.{kindAt, numberAt, wordZero}
 use Rattle.view.specs.Pools.{FreeAt, NoneFree}
 use Rattle.view.proofs.Apart.{start-at, number-few}
 
-abbrev pick : {A : Type 0} → Bool → A → A → A
-pick b x y = elim b [ true ↦ x | false ↦ y ]
-
 -- ── one pool ──
 module _ (words : List ℕ) (z : ℕ) where
   from-le : (a c : ℕ) → lowestFrom words a z c ≤ c
   from-le a zero = omega arith
   from-le a (suc c) = go (eqb (getD words a 0) 0) (from-le (a + z) c)
     where
-      go : (t : Bool) → lowestFrom words (a + z) z c ≤ c → pick t 0 (suc (lowestFrom words (a + z) z c)) ≤ suc c
+      go : (t : Bool) → lowestFrom words (a + z) z c ≤ c → choose t 0 (suc (lowestFrom words (a + z) z c)) ≤ suc c
       go true h = omega arith
       go false h = omega arith
 
@@ -41,7 +39,7 @@ module _ (words : List ℕ) (z : ℕ) where
   from-free a (suc c) h = go (eqb (getD words a 0) 0) refl (from-free (a + z) c) h
     where
       go : (t : Bool) → eqb (getD words a 0) 0 ≡ t → (lowestFrom words (a + z) z c < c → getD words (a + z + lowestFrom words (a + z) z c * z) 0 ≡ 0)
-          → pick t 0 (suc (lowestFrom words (a + z) z c)) < suc c → getD words (a + pick t 0 (suc (lowestFrom words (a + z) z c)) * z) 0 ≡ 0
+          → choose t 0 (suc (lowestFrom words (a + z) z c)) < suc c → getD words (a + choose t 0 (suc (lowestFrom words (a + z) z c)) * z) 0 ≡ 0
       go true e ih k = ap (λ (j : ℕ). getD words j 0) (let q : a + 0 * z ≡ a = omega arith in q) ∙ eqb-true _ _ e
       go false e ih k = ap (λ (j : ℕ). getD words j 0) (sym (next-at a (lowestFrom words (a + z) z c))) ∙ ih (omega arith)
 
@@ -50,7 +48,7 @@ module _ (words : List ℕ) (z : ℕ) where
   from-used a (suc c) i h = go (eqb (getD words a 0) 0) refl i (from-used (a + z) c) h
     where
       go : (t : Bool) → eqb (getD words a 0) 0 ≡ t → (i : ℕ) → ((j : ℕ) → j < lowestFrom words (a + z) z c → getD words (a + z + j * z) 0 ≢ 0)
-          → i < pick t 0 (suc (lowestFrom words (a + z) z c)) → getD words (a + i * z) 0 ≢ 0
+          → i < choose t 0 (suc (lowestFrom words (a + z) z c)) → getD words (a + i * z) 0 ≢ 0
       go true e i ih k = absurd (omega arith)
       go false e zero ih k = λ q. eqb-false _ _ e (ap (λ (j : ℕ). getD words j 0) (let p : a ≡ a + 0 * z = omega arith in p) ∙ q)
       go false e (suc i) ih k = λ q. ih i (omega arith) (ap (λ (j : ℕ). getD words j 0) (next-at a i) ∙ q)
@@ -129,7 +127,7 @@ module _ (f : Frame) (words : List ℕ) where
           step j m a b p (no q) = r .smaller j m (omega arith) b p
 
       go : (t : Bool) → ltb (lowestFree f words kind) (getD (f .caps) kind 0) ≡ t → (freeFrom f words (kind + 1) more ≡ At k n → FreeAt f words (kind + 1) k n)
-          → pick t (At kind (lowestFree f words kind)) (freeFrom f words (kind + 1) more) ≡ At k n → FreeAt f words kind k n
+          → choose t (At kind (lowestFree f words kind)) (freeFrom f words (kind + 1) more) ≡ At k n → FreeAt f words kind k n
       go true t ih q =
           let a : kind ≡ k = cc in
           let b : lowestFree f words kind ≡ n = cc in
@@ -146,7 +144,7 @@ module _ (f : Frame) (words : List ℕ) where
       step t r j m l p (no q) = r j m (omega arith) p
 
       go : (t : Bool) → ltb (lowestFree f words kind) (getD (f .caps) kind 0) ≡ t → (freeFrom f words (kind + 1) more ≡ Nowhere → NoneFree f words (kind + 1))
-          → pick t (At kind (lowestFree f words kind)) (freeFrom f words (kind + 1) more) ≡ Nowhere → NoneFree f words kind
+          → choose t (At kind (lowestFree f words kind)) (freeFrom f words (kind + 1) more) ≡ Nowhere → NoneFree f words kind
       go true t ih q = absurd (let z : _≡_ {A = ℕ} 0 1 = cc in omega arith)
       go false t ih q = λ j m l p. step t (ih q) j m l p (ℕ-discrete j kind)
 

@@ -9,7 +9,7 @@ use lib.Seq.{drop-at, take-all}
 use lib.Dec.{eqb}
 use borrow.Author.Tests.{eq-eqb, le-leb, eqb-true}
 use Rattle.lists.specs.Scan.{choose, all, atMost}
-use Rattle.lists.proofs.Tests.{both, and-both, all-between, all-zero, zeros-all}
+use Rattle.lists.proofs.Tests.{both, and-both, all-between, all-zero, zeros-all, zeros-at}
 use Rattle.lists.proofs.Parts.{between-left}
 use Rattle.frames.specs.Form.{formKnown, formOf, sizesOf}
 use Rattle.frames.specs.Frame.{capsSmall, backsOf, formFits, trailerFits, trailerOf, frameFits, frameOf, frameWith, FrameOf}
@@ -23,7 +23,7 @@ use Rattle.art.specs.Stores.{Place, leaf-place, inner-place, unused}
 use Rattle.pools.specs.Start.{startFits, trailerWords, Out, out, startOf}
 use Rattle.pools.specs.declared.start.Started.the-variants.{Done, Refused}
 use Rattle.view.specs.Empty.{Empty}
-use Rattle.view.proofs.Views.{zero-first, cell-out, cell-free}
+use Rattle.view.proofs.Views.{cell-out, cell-free}
 
 -- the last 16 words
 trailer-end : (x t : List ℕ) → length t ≡ 16 → trailerOf (x ++ t) ≡ t
@@ -108,7 +108,7 @@ module _ (form : Form) (c : Caps) (n k : ℕ) (own : formOf (form .number) ≡ f
       }
     where
       cell : (x : Place) (b : Bool) → inPool startFrame x ≡ b → cellOf startFrame startWords startKeys x ≡ unused
-      cell x true h = cell-free startFrame startWords startKeys x (ap (λ (l : List ℕ). getD l 0 0) (all-zero (recordAt startFrame startWords x) (zeros x h)) ∙ zero-first (length (recordAt startFrame startWords x)))
+      cell x true h = cell-free startFrame startWords startKeys x (ap (λ (l : List ℕ). getD l 0 0) (all-zero (recordAt startFrame startWords x) (zeros x h)) ∙ zeros-at (length (recordAt startFrame startWords x)) 0)
       cell x false h = cell-out startFrame startWords startKeys x h
 
       blank : (x : Place) → inPool startFrame x ≡ true → blankAt startFrame startWords startKeys x ≡ true

@@ -1,10 +1,10 @@
 -- The view is made of the records and key bytes of the pools' places: where these stay, it stays, and where one place's change, one cell is written.
-use Prim.Native.Nat.{ℕ, zero, suc}
+use Prim.Native.Nat.{ℕ}
 use mathlib.Core.Path.{_≡_, refl, sym, ap, ap₂, _∙_, fun-ext}
 use mathlib.Core.Logic.{_≢_, ite}
 use mathlib.Core.List.{List}
 use mathlib.Core.Bool.{Bool, true, false}
-use lib.ListN.{getD, replicate}
+use lib.ListN.{getD}
 use borrow.Author.Tests.{eq-eqb, ne-eqb}
 use Rattle.lists.specs.Scan.{choose}
 use Rattle.frames.specs.Place.{inPool, recordAt}
@@ -22,11 +22,6 @@ module _ (f : Frame) (words keys : List ℕ) where
   pub cell-out : (x : Place) → inPool f x ≡ false → cellOf f words keys x ≡ unused
   unfolding cellOf
   cell-out x h = ap (λ (b : Bool). choose b (rawCell f words keys x) unused) h
-
--- a cleared record has 0 in word 0
-pub zero-first : (size : ℕ) → _≡_ {A = ℕ} (getD (replicate size 0) 0 0) 0
-zero-first zero = refl
-zero-first (suc size) = refl
 
 -- a record with 0 in word 0 shows nothing, any other something
 pub free-cell : (f : Frame) (x : Place) (rec key : List ℕ) → getD rec 0 0 ≡ 0 → cellIn f x rec key ≡ unused

@@ -1,6 +1,6 @@
 -- What an arrival gives: the record lies within the words, and obeys its rule.
 use Prim.Native.Nat.{ℕ}
-use mathlib.Core.Path.{_≡_, refl, subst, sym}
+use mathlib.Core.Path.{_≡_, refl}
 use mathlib.Core.List.{List}
 use Rattle.frames.specs.Frame.{FrameOf}
 use Rattle.frames.specs.declared.frame.Frame.{Frame}

@@ -1,6 +1,6 @@
 -- The ends of the check, and the cases of the call.
 use Prim.Native.Nat.{ℕ, _-_, _≤_, _<_}
-use mathlib.Core.Path.{_≡_, refl, sym, ap, subst, _∙_}
+use mathlib.Core.Path.{_≡_, sym, ap, subst, _∙_}
 use mathlib.Core.List.{List, _++_}
 use mathlib.Core.Bool.{Bool, true, false, _&&_}
 use native.Mathlib.Nat.{sub-zero}
@@ -17,8 +17,7 @@ use Rattle.whole.specs.Sweep.{swept}
 use Rattle.whole.specs.Check.{atStart, rootWay, endedWell, wayWell, wholeBy, Answer, answer, cleared, checkWith, checkOf}
 use Rattle.whole.specs.declared.well_formed.Seen.{Seen}
 use Rattle.whole.specs.declared.well_formed.Visit.{Visit}
-use Rattle.whole.specs.declared.well_formed.Visit.the-variants.{Well, Ill}
-use Rattle.whole.specs.declared.check.Checked.{Checked}
+use Rattle.whole.specs.declared.well_formed.Visit.the-variants.{Well}
 use Rattle.whole.specs.declared.check.Checked.the-variants.{Sound, Damaged, ShortScratch}
 
 -- ---- the end of the way
@@ -33,7 +32,7 @@ module _ (words : List ℕ) {v : Visit} where
 -- ---- the way from the root
 module _ (f : Frame) (words keys m : List ℕ) where
   abbrev pub fork : Bool → Way
-  fork b = elim b [ true ↦ way (Well 0 (atStart words)) m | false ↦ recordBy f words keys (f .form .limit) (rootWord words) 0 m (atStart words) ]
+  fork b = choose b (way (Well 0 (atStart words)) m) (recordBy f words keys (f .form .limit) (rootWord words) 0 m (atStart words))
 
   pub root-by : (b : Bool) → eqb (rootWord words) 0 ≡ b → fork b ≡ rootWay f words keys m
   unfolding rootWay

@@ -1,6 +1,6 @@
 -- The sums that marks are placed by, and how marking goes.
 use Prim.Native.Nat.{ℕ, zero, suc, _+_, _*_, _/_, _%_, _≤_, _<_}
-use mathlib.Core.Path.{_≡_, refl, sym, ap, subst, _∙_}
+use mathlib.Core.Path.{_≡_, refl, sym, ap, _∙_}
 use mathlib.Core.List.{List, [], _∷_}
 use mathlib.Core.Bool.{Bool, true, false, _&&_, and-false}
 use native.Mathlib.Omega.{arith}
@@ -9,13 +9,11 @@ use lib.ListN.{length, getD, set, length-set}
 use lib.Dec.{eqb, ltb}
 use borrow.Author.Tests.{lt-ltb, le-ltb, eq-eqb, ne-eqb, eqb-true, ltb-true}
 use Rattle.lists.specs.Scan.{choose, count, nonzero}
-use Rattle.lists.proofs.Scans.{pick}
 use Rattle.lists.proofs.Tests.{both, count-le}
-use Rattle.frames.specs.Frame.{Framed, SmallCaps, capsList}
+use Rattle.frames.specs.Frame.{Framed}
 use Rattle.frames.specs.Place.{placeAt, inPool}
 use Rattle.frames.specs.declared.frame.Frame.{Frame}
-use Rattle.frames.specs.declared.frame.Caps.{Caps}
-use Rattle.frames.proofs.Frames.{by-eight}
+use Rattle.frames.proofs.Frames.{caps-most}
 use Rattle.art.specs.Stores.{leaf-place, inner-place}
 use Rattle.whole.specs.Marks.{sumTo, markAt, unmarked, setMark, fresh, reached}
 
@@ -29,24 +27,11 @@ sum-suc (suc k) (x ∷ xs) = omega (arith, sum-suc k xs)
 pub sum-next : (k : ℕ) (l : List ℕ) → sumTo (k + 1) l ≡ sumTo k l + getD l k 0
 sum-next k l = ap (λ (j : ℕ). sumTo j l) (add-one k) ∙ sum-suc k l
 
--- a capacity is at most 4,096
-pub cap-small : {f : Frame} → Framed f → (k : ℕ) → k < 8 → getD (f .caps) k 0 ≤ 4096
-cap-small {f} w k h = subst (λ (g : Frame). getD (g .caps) k 0 ≤ 4096) (sym (w .made)) (go k h)
-  where
-    c : Caps
-    c = w .caps
-
-    s : SmallCaps c
-    s = w .small-caps
-
-    go : (k : ℕ) → k < 8 → getD (capsList c) k 0 ≤ 4096
-    go = by-eight (λ k. getD (capsList c) k 0 ≤ 4096) (omega arith) (s .s1) (s .s2) (s .s3) (s .s4) (s .s5) (omega arith) (omega arith)
-
--- and so many together at most so many times that
+-- a capacity is at most 4,096, and so many together at most so many times that
 pub sum-small : {f : Frame} → Framed f → (k : ℕ) → k ≤ 8 → sumTo k (f .caps) ≤ 4096 * k
 sum-small w zero h = omega arith
 sum-small {f} w (suc k) h =
-    omega (arith, sum-suc k (f .caps), sum-small w k (omega arith), cap-small w k (omega arith))
+    omega (arith, sum-suc k (f .caps), sum-small w k (omega arith), caps-most w k (omega arith))
 
 -- ---- where a mark is
 pub mark-by : (f : Frame) (ref : ℕ) → sumTo (ref % 8) (f .caps) + ref / 8 ≡ markAt f (placeAt ref)
@@ -95,11 +80,11 @@ module _ (f : Frame) (ref : ℕ) (m : List ℕ) where
 -- ---- how many are marked
 count-set : (m : List ℕ) (at : ℕ) → at < length m → getD m at 0 ≡ 0 → count nonzero (set m at 1) ≡ suc (count nonzero m)
 count-set [] at h e = absurd (omega arith)
-count-set (x ∷ xs) zero h e = ap suc (ap (λ (b : Bool). pick b (suc (count nonzero xs)) (count nonzero xs)) (sym (le-ltb 0 x (omega arith))))
+count-set (x ∷ xs) zero h e = ap suc (ap (λ (b : Bool). choose b (suc (count nonzero xs)) (count nonzero xs)) (sym (le-ltb 0 x (omega arith))))
 count-set (x ∷ xs) (suc at) h e = go (nonzero x) (count-set xs at (omega arith) e)
   where
     go : (b : Bool) → count nonzero (set xs at 1) ≡ suc (count nonzero xs)
-        → pick b (suc (count nonzero (set xs at 1))) (count nonzero (set xs at 1)) ≡ suc (pick b (suc (count nonzero xs)) (count nonzero xs))
+        → choose b (suc (count nonzero (set xs at 1))) (count nonzero (set xs at 1)) ≡ suc (choose b (suc (count nonzero xs)) (count nonzero xs))
     go true ih = ap suc ih
     go false ih = ih
 

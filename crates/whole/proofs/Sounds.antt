@@ -1,5 +1,5 @@
 -- The check finds a block sound just where it is: both directions.
-use Prim.Native.Nat.{ℕ, zero, suc, _+_, _*_, _/_, _≤_, _<_}
+use Prim.Native.Nat.{ℕ, suc, _+_, _*_, _/_, _≤_, _<_}
 use mathlib.Core.Path.{_≡_, refl, sym, ap, subst, _∙_, fun-ext}
 use mathlib.Core.Logic.{_⊎_, inl, inr, if-pos}
 use mathlib.Core.Option.{Option, none, some}
@@ -9,12 +9,13 @@ use native.Mathlib.Omega.{arith}
 use native.Mathlib.Decide.{ℕ-discrete}
 use lib.ListN.{length, getD, replicate, take, length-take, length-replicate}
 use lib.Dec.{eqb, leb, ltb}
-use borrow.Author.Tests.{leb-true, ltb-true, eqb-true, eqb-false, eq-eqb, ne-eqb, le-ltb}
+use borrow.Author.Tests.{leb-true, eqb-true, eq-eqb, ne-eqb, le-ltb}
+use Rattle.view.proofs.Views.{cell-in, cell-out}
 use Rattle.lists.specs.Scan.{choose, all, atMost}
-use Rattle.lists.proofs.Tests.{both, and-both}
+use Rattle.lists.proofs.Tests.{both, and-both, zeros-at}
 use Rattle.lists.proofs.Tables.{both5}
 use Rattle.prefix.specs.Run.{held as stored}
-use Rattle.frames.specs.Frame.{trailerOf, frameFits, frameOf, FrameOf, rootWord, firstWord, lastWord, countWord, frame}
+use Rattle.frames.specs.Frame.{frameFits, FrameOf, rootWord, firstWord, lastWord, countWord, frame}
 use Rattle.frames.specs.Place.{placeAt, refOf, inPool, startAt, recordAt, keyAt}
 use Rattle.frames.specs.declared.frame.Frame.{Frame}
 use Rattle.frames.proofs.KindTable.{by-kind}
@@ -37,23 +38,21 @@ use Rattle.art.proofs.Stores.{used-not}
 use Rattle.art.specs.Walks.{Shows, ShowsRow}
 use Rattle.art.proofs.Walks.{store-shows}
 use Rattle.art.specs.Members.{In, in-dec}
-use Rattle.art.specs.Chain.{Links, after-ref, Linked, leaves, leaves-of}
+use Rattle.art.specs.Chain.{Linked, leaves, leaves-of}
 use Rattle.art.specs.Visit.{State, at-start, spots, passed}
 use Rattle.art.proofs.Passes.{store-on}
 use Rattle.art.specs.Check.{Ended, Checked}
 use Rattle.art.proofs.Checks.{used-or-free, check-sound, sound-check}
 use Rattle.whole.specs.Marks.{placesIn, markAt, unmarked}
-use Rattle.whole.specs.Witness.{tagAt}
 use Rattle.whole.specs.Visit.{Way, way, recordBy}
-use Rattle.whole.specs.Sweep.{allUnder, sweptAt, sweptPool, swept}
+use Rattle.whole.specs.Sweep.{sweptAt, sweptPool, swept}
 use Rattle.whole.specs.Check.{atStart, rootWay, endedWell, wayWell, wholeBy, wholeOf, numberOf, checkOf}
 use Rattle.view.specs.Links.{linkAt, linksOf}
 use Rattle.whole.specs.Sound.{Rooted, Sound}
 use Rattle.art.specs.Calls.{OnceOf}
 use Rattle.art.specs.Points.{store-of}
 use Rattle.whole.specs.declared.well_formed.Seen.{Seen}
-use Rattle.whole.specs.declared.well_formed.Visit.{Visit}
-use Rattle.whole.specs.declared.well_formed.Visit.the-variants.{Well, Ill}
+use Rattle.whole.specs.declared.well_formed.Visit.the-variants.{Well}
 use Rattle.tree.proofs.Arrivals.{inner-stands}
 use Rattle.whole.proofs.Marking.{mark-on, mark-off}
 use Rattle.whole.proofs.Sweeping.{under-at, under-by, pool-place}
@@ -65,27 +64,19 @@ absurd-cell : {X : Type 0} {c : Cell Held} → Used c → c ≡ unused → X
 absurd-cell {c = c} u e = absurd (used-not c u e)
 
 -- ---- a blank record is unused
-zero-first : (l : List ℕ) → all (atMost 0) l ≡ true → getD l 0 0 ≡ 0
-zero-first [] e = refl
-zero-first (x ∷ xs) e = omega (arith, leb-true x 0 (both (leb x 0) (all (atMost 0) xs) e .0))
+blank-first : (l : List ℕ) → all (atMost 0) l ≡ true → getD l 0 0 ≡ 0
+blank-first [] e = refl
+blank-first (x ∷ xs) e = omega (arith, leb-true x 0 (both (leb x 0) (all (atMost 0) xs) e .0))
 
 module _ (f : Frame) (words keys : List ℕ) where
   raw-blank : (x : Place) → blankAt f words keys x ≡ true → rawCell f words keys x ≡ unused
   raw-blank (leaf-place n) e =
       let rec = recordAt f words (leaf-place n) in
       ap (λ (b : Bool). choose b unused (leaf-cell (take (getD rec 1 0) (keyAt f keys n)) (record { number = n; total = totalOf rec })))
-      (eq-eqb (getD rec 0 0) 0 (zero-first rec (both (all (atMost 0) rec) (all (atMost 0) (keyAt f keys n)) e .0)))
+      (eq-eqb (getD rec 0 0) 0 (blank-first rec (both (all (atMost 0) rec) (all (atMost 0) (keyAt f keys n)) e .0)))
   raw-blank (inner-place k n) e =
       let rec = recordAt f words (inner-place k n) in
-      ap (λ (b : Bool). choose b unused (inner-cell (getD rec 2 0) (stored (prefixAt (f .form) rec)) (places (rowAt (f .form) k rec)))) (eq-eqb (getD rec 0 0) 0 (zero-first rec e))
-
-  cell-in : (x : Place) → inPool f x ≡ true → cellOf f words keys x ≡ rawCell f words keys x
-  unfolding cellOf
-  cell-in x p = ap (λ (b : Bool). choose b (rawCell f words keys x) unused) p
-
-  cell-out : (x : Place) → inPool f x ≡ false → cellOf f words keys x ≡ unused
-  unfolding cellOf
-  cell-out x p = ap (λ (b : Bool). choose b (rawCell f words keys x) unused) p
+      ap (λ (b : Bool). choose b unused (inner-cell (getD rec 2 0) (stored (prefixAt (f .form) rec)) (places (rowAt (f .form) k rec)))) (eq-eqb (getD rec 0 0) 0 (blank-first rec e))
 
   -- a used cell is one of a pool
   pub used-pool : (x : Place) → Used (cellOf f words keys x) → inPool f x ≡ true
@@ -93,7 +84,7 @@ module _ (f : Frame) (words keys : List ℕ) where
     where
       go : (b : Bool) → inPool f x ≡ b → inPool f x ≡ true
       go true e = e
-      go false e = absurd-cell u (cell-out x e)
+      go false e = absurd-cell u (cell-out f words keys x e)
 
   ruled-out : (x : Place) → inPool f x ≡ false → ruled f words keys x ≡ unused
   ruled-out x p = ruled-not f words keys x (ap (λ (b : Bool). b && ruleAt f words keys x) p)
@@ -110,9 +101,9 @@ module _ (f : Frame) (words keys : List ℕ) where
   rules-same h x = go (inPool f x) refl (used-or-free (cellOf f words keys x))
     where
       go : (b : Bool) → inPool f x ≡ b → Used (cellOf f words keys x) ⊎ (cellOf f words keys x ≡ unused) → ruled f words keys x ≡ cellOf f words keys x
-      go false p u = ruled-out x p ∙ sym (cell-out x p)
-      go true p (inl u) = ruled-raw f words keys x (and-both p (h x u)) ∙ sym (cell-in x p)
-      go true p (inr e) = ruled-blank x (sym (cell-in x p) ∙ e) ∙ sym e
+      go false p u = ruled-out x p ∙ sym (cell-out f words keys x p)
+      go true p (inl u) = ruled-raw f words keys x (and-both p (h x u)) ∙ sym (cell-in f words keys x p)
+      go true p (inr e) = ruled-blank x (sym (cell-in f words keys x p) ∙ e) ∙ sym e
 
 -- ---- every place of the pools
 module _ {f : Frame} {words keys : List ℕ} (fr : FrameOf f words keys) (m : List ℕ) where
@@ -249,12 +240,6 @@ module _ (f : Frame) (words keys : List ℕ) (fr : FrameOf f words keys) where
 
   pub height-short : (t : Tree Held) → Good t → Shows t [] (ruled f words keys) → height t < suc (f .form .limit)
   height-short t g h = omega (arith, height-bound t g, longest-short (contents t) (tags-short t [] h))
-
--- ---- before the first leaf
-zeros-at : (n i : ℕ) → getD {A = ℕ} (replicate n 0) i 0 ≡ 0
-zeros-at zero i = refl
-zeros-at (suc n) zero = refl
-zeros-at (suc n) (suc i) = zeros-at n i
 
 start-tally : (f : Frame) (words keys : List ℕ) → Tally f words keys (replicate (placesIn f) 0) (atStart words) at-start
 unfolding linksOf

@@ -1,34 +1,33 @@
 -- The cases of the definition that goes by turns from a record to its row, in the code's numbers; what is handed up is a leaf that was seen, and no more leaves are counted than
 -- records are marked.
-use Prim.Native.Nat.{ℕ, zero, suc, _+_, _-_, _*_, _/_, _%_, _≤_, _<_}
+use Prim.Native.Nat.{ℕ, zero, suc, _+_, _-_, _/_, _%_, _≤_, _<_}
 use mathlib.Core.Path.{_≡_, refl, sym, ap, subst, _∙_}
 use mathlib.Core.List.{List, [], _∷_}
 use mathlib.Core.Bool.{Bool, true, false, _&&_}
 use native.Mathlib.Omega.{arith}
 use lib.ListN.{length, getD}
 use lib.Dec.{eqb, leb, ltb}
-use borrow.Author.Tests.{eq-eqb, ne-eqb, eqb-true, eqb-false, leb-true, leb-false, ltb-true, le-leb, lt-leb}
+use borrow.Author.Tests.{eqb-true, eqb-false, leb-true, leb-false, ltb-true, le-leb, lt-leb}
 use Rattle.lists.specs.Scan.{choose, count, nonzero}
 use Rattle.lists.specs.Part.{between}
 use Rattle.lists.proofs.Tests.{both}
 use Rattle.frames.specs.Frame.{trailerOf, frameOf, FrameOf}
-use Rattle.frames.specs.Form.{formOf}
-use Rattle.frames.specs.Place.{placeAt, inPool, startAt}
+use Rattle.frames.specs.Place.{placeAt, inPool}
 use Rattle.frames.specs.declared.frame.Frame.{Frame}
-use Rattle.frames.proofs.Frames.{totals, formAt}
+use Rattle.frames.proofs.Frames.{totals}
 use Rattle.frames.proofs.FormTable.{form-rules}
 use Rattle.records.specs.View.{ruleAt}
 use Rattle.records.specs.Row.{entryFrom, Climbs}
 use Rattle.records.specs.declared.representation.Entry.{Entry}
 use Rattle.records.specs.declared.representation.Entry.the-variants.{Child, Nothing}
 use Rattle.records.proofs.Owns.{inner-rule}
-use Rattle.records.proofs.RowRules.{climbs-lower, row-rule}
+use Rattle.records.proofs.RowRules.{row-rule}
 use Rattle.art.specs.Stores.{Place, leaf-place, inner-place}
 use Rattle.tree.specs.Arrive.{arrivalAt, arrived, onPath, InnerThere}
 use Rattle.whole.specs.Arrive.{There, innerRec}
 use Rattle.whole.specs.Marks.{fresh, reached}
 use Rattle.whole.specs.Witness.{LeafSeen, WitnessSeen, tagAt, goesOn, storedAgrees}
-use Rattle.whole.specs.Visit.{Way, way, leafVisit, turnOf, turnAt, doneOf, firstOf, rowEnd, childEnd, wayOn, recordEnd, rowBy, rowFrom, rowOf, afterTurn, recordWith, recordBy, rowWay, Sees, Counted, RowReady}
+use Rattle.whole.specs.Visit.{Way, way, leafVisit, turnOf, turnAt, doneOf, firstOf, rowEnd, childEnd, wayOn, recordEnd, rowBy, rowFrom, rowOf, afterTurn, recordBy, rowWay, Sees, Counted, RowReady}
 use Rattle.tree.specs.declared.arrive.Arrival.{Arrival}
 use Rattle.tree.specs.declared.arrive.Arrival.the-variants.{Leaf, Inner, Broken}
 use Rattle.whole.specs.declared.well_formed.Seen.{Seen}
@@ -37,7 +36,7 @@ use Rattle.whole.specs.declared.well_formed.Turn.{Turn}
 use Rattle.whole.specs.declared.well_formed.Turn.the-variants.{Branch, Done}
 use Rattle.whole.specs.declared.well_formed.Visit.{Visit}
 use Rattle.whole.specs.declared.well_formed.Visit.the-variants.{Well, Ill}
-use Rattle.whole.proofs.Marking.{reached-count, reached-more, fresh-parts}
+use Rattle.whole.proofs.Marking.{reached-count, reached-more}
 use Rattle.whole.proofs.Arrivals.{there}
 use Rattle.whole.proofs.Turns.{first-seen}
 
@@ -102,18 +101,14 @@ module _ {f : Frame} {words keys : List ℕ} (w : FrameOf f words keys) (left re
   unfolding turnAt
   branches row e = subst BranchesTo e (branch-at (fresh f ref m))
 
--- ---- a row from a byte on
-abbrev pick : Bool → List (ℕ × ℕ) → List (ℕ × ℕ) → List (ℕ × ℕ)
-pick b x y = elim b [ true ↦ x | false ↦ y ]
-
 pub from-all : (lo b : ℕ) (cs : List (ℕ × ℕ)) → Climbs lo cs → b ≤ lo → rowFrom b cs ≡ cs
 from-all lo b [] h l = refl
-from-all lo b (c ∷ cs) h l = ap (λ (t : Bool). pick t (c ∷ cs) (rowFrom b cs)) (le-leb b (c .0) (omega (arith, h .0 .low)))
+from-all lo b (c ∷ cs) h l = ap (λ (t : Bool). choose t (c ∷ cs) (rowFrom b cs)) (le-leb b (c .0) (omega (arith, h .0 .low)))
 
 -- no child has a byte after 255
 none-from : (lo b : ℕ) (cs : List (ℕ × ℕ)) → Climbs lo cs → 255 < b → rowFrom b cs ≡ []
 none-from lo b [] h l = refl
-none-from lo b (c ∷ cs) h l = ap (λ (t : Bool). pick t (c ∷ cs) (rowFrom b cs)) (lt-leb b (c .0) (omega (arith, h .0 .byte))) ∙ none-from (suc (c .0)) b cs (h .1) l
+none-from lo b (c ∷ cs) h l = ap (λ (t : Bool). choose t (c ∷ cs) (rowFrom b cs)) (lt-leb b (c .0) (omega (arith, h .0 .byte))) ∙ none-from (suc (c .0)) b cs (h .1) l
 
 -- what stands first from a byte on, and the rest
 pub record Starts (b : ℕ) (cs : List (ℕ × ℕ)) (x r : ℕ) : Type 0 where
@@ -125,20 +120,17 @@ abbrev StartsAt : ℕ → List (ℕ × ℕ) → Entry → Type 0
 StartsAt b cs (Child x r) = Starts b cs x r
 StartsAt b cs Nothing = rowFrom b cs ≡ []
 
-abbrev pickEntry : Bool → Entry → Entry → Entry
-pickEntry b x y = elim b [ true ↦ x | false ↦ y ]
-
 skip-starts : (b : ℕ) (c : ℕ × ℕ) (cs : List (ℕ × ℕ)) (en : Entry) → c .0 < b → StartsAt b cs en → StartsAt b (c ∷ cs) en
 skip-starts b c cs (Child x r) l h =
     record {
       low = h .low;
       byte = h .byte;
       parts =
-          ap (λ (t : Bool). pick t (c ∷ cs) (rowFrom b cs)) (lt-leb b (c .0) l)
+          ap (λ (t : Bool). choose t (c ∷ cs) (rowFrom b cs)) (lt-leb b (c .0) l)
           ∙ h .parts
-          ∙ ap (λ (t : List (ℕ × ℕ)). (x, r) ∷ t) (ap (λ (t : Bool). pick t (c ∷ cs) (rowFrom (x + 1) cs)) (sym (lt-leb (x + 1) (c .0) (omega (arith, h .low)))));
+          ∙ ap (λ (t : List (ℕ × ℕ)). (x, r) ∷ t) (ap (λ (t : Bool). choose t (c ∷ cs) (rowFrom (x + 1) cs)) (sym (lt-leb (x + 1) (c .0) (omega (arith, h .low)))));
     }
-skip-starts b c cs Nothing l h = ap (λ (t : Bool). pick t (c ∷ cs) (rowFrom b cs)) (lt-leb b (c .0) l) ∙ h
+skip-starts b c cs Nothing l h = ap (λ (t : Bool). choose t (c ∷ cs) (rowFrom b cs)) (lt-leb b (c .0) l) ∙ h
 
 here-starts : (lo b : ℕ) (c : ℕ × ℕ) (cs : List (ℕ × ℕ)) → Climbs lo (c ∷ cs) → b ≤ c .0 → Starts b (c ∷ cs) (c .0) (c .1)
 here-starts lo b c cs h l =
@@ -146,10 +138,10 @@ here-starts lo b c cs h l =
       low = l;
       byte = h .0 .byte;
       parts =
-          ap (λ (t : Bool). pick t (c ∷ cs) (rowFrom b cs)) (le-leb b (c .0) l)
+          ap (λ (t : Bool). choose t (c ∷ cs) (rowFrom b cs)) (le-leb b (c .0) l)
           ∙ ap (λ (t : List (ℕ × ℕ)). (c .0, c .1) ∷ t)
           (sym
-          (ap (λ (t : Bool). pick t (c ∷ cs) (rowFrom (c .0 + 1) cs)) (lt-leb (c .0 + 1) (c .0) (omega arith))
+          (ap (λ (t : Bool). choose t (c ∷ cs) (rowFrom (c .0 + 1) cs)) (lt-leb (c .0 + 1) (c .0) (omega arith))
           ∙ from-all (suc (c .0)) (c .0 + 1) cs (h .1) (omega arith)));
     }
 
@@ -157,7 +149,7 @@ starts-at : (lo b : ℕ) (cs : List (ℕ × ℕ)) → Climbs lo cs → StartsAt 
 starts-at lo b [] h = refl
 starts-at lo b (c ∷ cs) h = go (leb b (c .0)) refl (starts-at (suc (c .0)) b cs (h .1))
   where
-    go : (t : Bool) → leb b (c .0) ≡ t → StartsAt b cs (entryFrom b cs) → StartsAt b (c ∷ cs) (pickEntry t (Child (c .0) (c .1)) (entryFrom b cs))
+    go : (t : Bool) → leb b (c .0) ≡ t → StartsAt b cs (entryFrom b cs) → StartsAt b (c ∷ cs) (choose t (Child (c .0) (c .1)) (entryFrom b cs))
     go true e ih = here-starts lo b c cs h (leb-true b (c .0) e)
     go false e ih = skip-starts b c cs (entryFrom b cs) (leb-false b (c .0) e) ih
 

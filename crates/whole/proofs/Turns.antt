@@ -1,10 +1,10 @@
 -- The cases of what is done at a record, at a child and at a row's end, and what holds on the way.
-use Prim.Native.Nat.{ℕ, zero, suc, _+_, _-_, _*_, _/_, _%_, _≤_, _<_}
+use Prim.Native.Nat.{ℕ, _+_, _-_}
 use mathlib.Core.Path.{_≡_, refl, sym, ap, subst, _∙_}
-use mathlib.Core.List.{List, [], _∷_}
+use mathlib.Core.List.{List}
 use mathlib.Core.Bool.{Bool, true, false, _&&_}
 use native.Mathlib.Omega.{arith}
-use lib.ListN.{length, getD}
+use lib.ListN.{getD}
 use lib.Dec.{eqb}
 use borrow.Author.Tests.{eq-eqb, ne-eqb, eqb-false}
 use Rattle.lists.specs.Scan.{choose}
@@ -20,7 +20,6 @@ use Rattle.tree.specs.declared.arrive.Arrival.{Arrival}
 use Rattle.tree.specs.declared.arrive.Arrival.the-variants.{Leaf, Inner, Broken}
 use Rattle.whole.specs.declared.well_formed.Seen.{Seen}
 use Rattle.whole.specs.declared.well_formed.Row.{Row}
-use Rattle.whole.specs.declared.well_formed.Turn.{Turn}
 use Rattle.whole.specs.declared.well_formed.Turn.the-variants.{Branch, Done}
 use Rattle.whole.specs.declared.well_formed.Visit.{Visit}
 use Rattle.whole.specs.declared.well_formed.Visit.the-variants.{Well, Ill}

@@ -1,7 +1,7 @@
 -- The check's way through the block is the mathematics' way through the store of the records that obey their rules: the marks are the places seen.
-use Prim.Native.Nat.{ℕ, zero, suc, _+_, _-_, _*_, _/_, _%_, _<_}
+use Prim.Native.Nat.{ℕ, zero, suc, _+_, _-_, _/_, _<_}
 use mathlib.Core.Path.{_≡_, refl, sym, ap, subst, _∙_}
-use mathlib.Core.Logic.{_⊎_, inl, inr, ite}
+use mathlib.Core.Logic.{inl, inr, ite}
 use mathlib.Core.Option.{Option, none, some}
 use mathlib.Core.List.{List, [], _∷_, _++_}
 use mathlib.Core.Bool.{Bool, true, false, _&&_, and-false}
@@ -13,11 +13,9 @@ use lib.Seq.{getD-set-same, getD-set-other}
 use lib.Dec.{eqb}
 use borrow.Author.Tests.{eq-eqb, ne-eqb, lt-ltb}
 use Rattle.lists.specs.Scan.{choose}
-use Rattle.lists.specs.Part.{between}
 use Rattle.lists.proofs.Tests.{both, and-both}
 use Rattle.prefix.specs.Run.{held}
 use Rattle.frames.specs.Frame.{FrameOf}
-use Rattle.frames.specs.Form.{storedOf}
 use Rattle.frames.specs.Place.{placeAt, refOf, inPool, startAt, recordAt, keyAt}
 use Rattle.frames.specs.declared.form.Form.{Form}
 use Rattle.frames.specs.declared.frame.Frame.{Frame}
@@ -25,26 +23,25 @@ use Rattle.frames.proofs.FormTable.{stored-eight}
 use Rattle.frames.proofs.Places.{inner-kind, ref-place}
 use Rattle.records.specs.Own.{prefixAt, totalOf}
 use Rattle.records.specs.Row.{rowAt}
-use Rattle.records.specs.View.{Held, places, rawCell, leafCell, innerCell, ruleAt}
+use Rattle.records.specs.View.{Held, places, rawCell, ruleAt}
 use Rattle.records.proofs.Owns.{leaf-rule, inner-rule}
 use Rattle.art.specs.Tags.{Tag, tag-dec}
 use Rattle.art.specs.Stores.{Place, leaf-place, inner-place, place-dec, Cell, unused, leaf-cell, inner-cell, Store}
 use Rattle.art.specs.Members.{In, in-dec}
 use Rattle.art.specs.Chain.{Links, leaf-ref, after-ref, follows}
 use Rattle.art.proofs.Chains.{after-next}
-use Rattle.art.specs.Visit.{and-then, when, State, marked, listed, mark, enlist}
+use Rattle.art.specs.Visit.{and-then, when, State, marked, listed, enlist}
 use Rattle.art.specs.Witness.{Hand, Tells, goes-on, probe-more, probe-refs, probe-run, probe-cell, probe}
-use Rattle.tree.specs.Arrive.{arrivalAt, arrived, onPath, InnerThere}
+use Rattle.tree.specs.Arrive.{arrivalAt, arrived, onPath}
 use Rattle.whole.specs.Arrive.{innerRec}
 use Rattle.whole.specs.Marks.{placesIn, markAt, unmarked, fresh, reached}
-use Rattle.whole.specs.Witness.{tagAt, goesOn, storedAgrees}
-use Rattle.whole.specs.Visit.{Way, way, leafVisit, turnOf, turnAt, firstOf, rowEnd, childEnd, wayOn, recordEnd, rowBy, rowFrom, rowOf, recordBy, rowWay}
+use Rattle.whole.specs.Witness.{tagAt, storedAgrees}
+use Rattle.whole.specs.Visit.{Way, way, leafVisit, turnOf, turnAt, childEnd, wayOn, recordEnd, rowBy, rowOf, recordBy, rowWay}
 use Rattle.view.specs.Links.{linkAt, linksOf}
 use Rattle.tree.specs.declared.arrive.Arrival.{Arrival}
-use Rattle.tree.specs.declared.arrive.Arrival.the-variants.{Leaf, Inner, Broken}
+use Rattle.tree.specs.declared.arrive.Arrival.the-variants.{Broken}
 use Rattle.whole.specs.declared.well_formed.Seen.{Seen}
 use Rattle.whole.specs.declared.well_formed.Row.{Row}
-use Rattle.whole.specs.declared.well_formed.Turn.{Turn}
 use Rattle.whole.specs.declared.well_formed.Turn.the-variants.{Branch, Done}
 use Rattle.whole.specs.declared.well_formed.Visit.{Visit}
 use Rattle.whole.specs.declared.well_formed.Visit.the-variants.{Well, Ill}
@@ -53,7 +50,7 @@ use Rattle.whole.proofs.Marking.{reached-new, mark-off}
 use Rattle.whole.proofs.Apart.{mark-room, marks-apart}
 use Rattle.whole.proofs.Agreeing.{goes-true, true-goes, goes-self, stored-true, true-stored}
 use Rattle.whole.proofs.Turns.{row-none, row-some, first-none, first-some, child-ill, child-well, child-parts, record-ill, record-well, record-parts}
-use Rattle.whole.proofs.Turning.{turn-old, turn-new, Branches, branches, record-done, record-branch, row-whole}
+use Rattle.whole.proofs.Turning.{turn-old, turn-new, branches, record-done, record-branch, row-whole}
 
 -- ---- tests
 not-true : {b : Bool} → (b ≡ true → ⊥) → b ≡ false

@@ -1,7 +1,7 @@
 -- The check of a whole block: frame, the way from the root, the ends of the leaf list, the count, and every record that was not reached.
 use Prim.Native.Nat.{ℕ}
 use mathlib.Core.List.{List, _++_}
-use mathlib.Core.Bool.{Bool, true, false, _&&_}
+use mathlib.Core.Bool.{Bool, false, _&&_}
 use lib.ListN.{length, drop, replicate}
 use lib.Dec.{eqb, ltb}
 use Rattle.lists.specs.Scan.{choose}
@@ -22,7 +22,7 @@ atStart words = record { prev = 0; next = firstWord words; count = 0 }
 
 -- the way from the root, with no more inner records on a path than the longest tag has bytes; where there is no root, nothing is seen
 unfoldable pub rootWay : Frame → List ℕ → List ℕ → List ℕ → Way
-rootWay f words keys m = elim (eqb (rootWord words) 0) [ true ↦ way (Well 0 (atStart words)) m | false ↦ recordBy f words keys (f .form .limit) (rootWord words) 0 m (atStart words) ]
+rootWay f words keys m = choose (eqb (rootWord words) 0) (way (Well 0 (atStart words)) m) (recordBy f words keys (f .form .limit) (rootWord words) 0 m (atStart words))
 
 -- nothing follows the leaf seen last, which is the list's last, and the count is right
 abbrev pub endedWell : List ℕ → Visit → Bool

@@ -1,18 +1,17 @@
 -- What a sound block is.
 use Prim.Native.Nat.{ℕ}
 use mathlib.Core.Path.{_≡_}
-use mathlib.Core.List.{List, []}
+use mathlib.Core.List.{List}
 use mathlib.Core.Option.{Option, none, some}
 use mathlib.Core.Bool.{true}
-use lib.ListN.{length, getD}
-use Rattle.lists.specs.Scan.{choose}
-use Rattle.frames.specs.Frame.{frameFits, frame, rootWord, firstWord, lastWord, countWord}
-use Rattle.frames.specs.Place.{refOf, inPool, recordAt}
+use lib.ListN.{length}
+use Rattle.frames.specs.Frame.{frameFits, frame, rootWord, countWord}
+use Rattle.frames.specs.Place.{refOf, inPool}
 use Rattle.records.specs.View.{Held, cellOf, ruleAt, blankAt}
 use Rattle.art.specs.Trees.{Tree}
 use Rattle.art.specs.Deletes.{held, Sane}
-use Rattle.art.specs.Stores.{Place, leaf-place, Store, unused, empty, store, root, Once, Used}
-use Rattle.art.specs.Chain.{Links, Linked, leaves-of}
+use Rattle.art.specs.Stores.{Place, unused, root, Used}
+use Rattle.art.specs.Chain.{Linked, leaves-of}
 use Rattle.art.specs.Points.{store-of}
 use Rattle.art.specs.Calls.{OnceOf}
 use Rattle.view.specs.Links.{linksOf}

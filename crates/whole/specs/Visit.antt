@@ -1,7 +1,7 @@
 -- The check's way, by turns from a record to its row of children, with the marks as it leaves them.
 use Prim.Native.Nat.{ℕ, zero, suc, _+_, _*_, _≤_}
 use mathlib.Core.List.{List, [], _∷_}
-use mathlib.Core.Bool.{Bool, true, false, _&&_}
+use mathlib.Core.Bool.{_&&_}
 use lib.ListN.{getD}
 use lib.Dec.{eqb, leb}
 use Rattle.lists.specs.Scan.{choose, count, nonzero}
@@ -86,7 +86,7 @@ rowBy f words keys g e w (c ∷ cs) m s =
 -- the children at or after a byte
 abbrev pub rowFrom : ℕ → List (ℕ × ℕ) → List (ℕ × ℕ)
 rowFrom b [] = []
-rowFrom b (c ∷ cs) = elim (leb b (c .0)) [ true ↦ c ∷ cs | false ↦ rowFrom b cs ]
+rowFrom b (c ∷ cs) = choose (leb b (c .0)) (c ∷ cs) (rowFrom b cs)
 
 abbrev pub rowOf : Frame → List ℕ → Row → List (ℕ × ℕ)
 rowOf f words row = rowAt (f .form) (row .kind) (innerRec (f .form) words (row .kind) (row .start))

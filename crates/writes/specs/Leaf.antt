@@ -1,7 +1,7 @@
 -- Leaves put into the pool and the list, and taken out.
 use Prim.Native.Nat.{ℕ}
 use mathlib.Core.List.{List}
-use lib.ListN.{length, replicate}
+use lib.ListN.{replicate}
 use Rattle.frames.specs.Place.{recordAt, putAt, putKey}
 use Rattle.frames.specs.declared.frame.Frame.{Frame}
 use Rattle.art.specs.Stores.{leaf-place}

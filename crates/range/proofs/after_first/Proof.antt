@@ -3,8 +3,7 @@ use Prim.Native.Nat.{_+_}
 use lib.ListN.{getD}
 use mathlib.Core.Path.{_≡_, sym, ap, _∙_}
 use native.Mathlib.Omega.{arith}
-use Rattle.frames.proofs.Frames.{framed, totals}
-use Rattle.whole.proofs.Marking.{cap-small}
+use Rattle.frames.proofs.Frames.{framed, totals, caps-most}
 use Rattle.range.specs.Range.{endedOf, afterFrom, afterFirst}
 use Rattle.range.proofs.Steps.{after-next, after-end, after-over}
 use borrow.Author.Needs.{needs}
@@ -18,7 +17,7 @@ abbrev μ-loop : tie.MeasureT-loop
 μ-loop words keys f tag left₀ reference₀ left reference = left
 
 add-left : tie.Need-add-left Inv-loop μ-loop
-add-left c = omega (arith, cap-small (framed (c .before .before .before .before .pre)) 5 (omega arith))
+add-left c = omega (arith, caps-most (framed (c .before .before .before .before .pre)) 5 (omega arith))
 
 trailer-word-requires : tie.Need-trailer-word-requires Inv-loop μ-loop
 trailer-word-requires c κs = (totals _ _ (c .before .before .before .before .pre .fits) .long, omega arith)

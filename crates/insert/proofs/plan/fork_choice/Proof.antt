@@ -1,5 +1,5 @@
 -- `fork_choice` meets its contract: by whether there is a free record of any kind.
-use mathlib.Core.Path.{sym, ap, _∙_}
+use mathlib.Core.Path.{ap, _∙_}
 use native.Mathlib.Omega.{arith}
 use Rattle.insert.specs.declared.plan.Site.the-variants.{Fork}
 use Rattle.insert.specs.declared.plan.Choice.the-variants.{At}

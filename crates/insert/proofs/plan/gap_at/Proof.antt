@@ -7,7 +7,6 @@ use Rattle.frames.specs.Place.{inPool, recordAt, sizeAt}
 use Rattle.frames.proofs.Frames.{framed, caps-most}
 use Rattle.frames.proofs.Places.{place-leaf}
 use borrow.Author.Tests.{ltb-true}
-use Rattle.writes.specs.declared.leaf_node.Gap.{Gap}
 use Rattle.insert.proofs.plan.gap_at.Statement.{statement}
 use Rattle.insert.proofs.plan.gap_at.Tie as tie
 

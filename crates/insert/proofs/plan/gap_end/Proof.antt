@@ -2,7 +2,6 @@
 use mathlib.Core.Path.{ap}
 use native.Mathlib.Omega.{arith}
 use Rattle.frames.proofs.Frames.{totals}
-use Rattle.writes.specs.declared.leaf_node.Gap.{Gap}
 use Rattle.insert.proofs.plan.gap_end.Statement.{statement}
 use Rattle.insert.proofs.plan.gap_end.Tie as tie
 

@@ -1,6 +1,6 @@
 -- `into_choice` meets its contract: by whether the record has room, and else by whether a larger kind has a free record.
 use Prim.Native.Nat.{_+_, _%_}
-use mathlib.Core.Path.{sym, ap, _∙_}
+use mathlib.Core.Path.{ap, _∙_}
 use native.Mathlib.Omega.{arith}
 use Rattle.points.proofs.Here.{here-kind}
 use Rattle.insert.specs.declared.plan.Site.the-variants.{Grow}

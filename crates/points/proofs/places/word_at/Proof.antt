@@ -1,9 +1,8 @@
 -- `places::word_at` meets its contract: a record of a pool lies within the words, and a word of it is as far from its first.
 use Prim.Native.Nat.{_+_}
-use mathlib.Core.Path.{_≡_, sym, ap, _∙_}
+use mathlib.Core.Path.{sym, ap, _∙_}
 use native.Mathlib.Omega.{arith}
 use lib.ListN.{getD}
-use borrow.Author.Needs.{needs}
 use Rattle.lists.proofs.Parts.{between-at}
 use Rattle.frames.specs.Place.{placeAt, startAt, sizeAt}
 use Rattle.frames.proofs.Frames.{framed}

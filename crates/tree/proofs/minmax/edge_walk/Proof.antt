@@ -1,5 +1,5 @@
 -- `minmax::edge_walk` meets its contract: at each turn the way down from here ends where the way down from the root does.
-use mathlib.Core.Path.{refl, sym, ap, _∙_}
+use mathlib.Core.Path.{sym, ap, _∙_}
 use native.Mathlib.Omega.{arith}
 use Rattle.frames.proofs.Frames.{limit-small}
 use Rattle.tree.specs.Edge.{edgeEnded}

@@ -1,5 +1,4 @@
 -- `check::whole` meets its contract: the way from the root, its end, and the sweep.
-use native.Mathlib.Omega.{arith}
 use Rattle.frames.proofs.Frames.{totals}
 use Rattle.whole.proofs.Calls.{whole-by}
 use borrow.Author.Needs.{needs}

@@ -4,8 +4,9 @@ use mathlib.Core.Path.{_≡_, sym, ap, _∙_}
 use native.Mathlib.Omega.{arith}
 use borrow.Author.Needs.{needs}
 use lib.ListN.{getD}
+use Rattle.frames.proofs.Frames.{caps-most}
 use Rattle.whole.specs.Marks.{sumTo}
-use Rattle.whole.proofs.Marking.{sum-next, sum-small, cap-small}
+use Rattle.whole.proofs.Marking.{sum-next, sum-small}
 use Rattle.whole.proofs.marks.before_pool.Statement.{statement}
 use Rattle.whole.proofs.marks.before_pool.Tie as tie
 
@@ -19,7 +20,7 @@ add-n : tie.Need-add-n Inv-loop μ-loop
 add-n c =
     let w = c .before .before .before .pre .1 in
     let k = c .before .loop .k in
-    omega (arith, sum-small w k (omega arith), cap-small w k (omega arith))
+    omega (arith, sum-small w k (omega arith), caps-most w k (omega arith))
 
 loop-again : tie.Need-loop-again Inv-loop μ-loop
 loop-again c =

@@ -1,9 +1,8 @@
 -- `sweep::sweep_pool` meets its contract: the records before `i` were reached, or are blank.
-use mathlib.Core.Path.{refl, sym, ap, _∙_}
+use mathlib.Core.Path.{refl}
 use Rattle.frames.specs.Place.{placeAt}
-use Rattle.frames.proofs.Frames.{framed}
-use Rattle.whole.specs.Sweep.{allUnder, sweptAt, sweptPool}
-use Rattle.whole.proofs.Marking.{cap-small}
+use Rattle.frames.proofs.Frames.{framed, caps-most}
+use Rattle.whole.specs.Sweep.{allUnder, sweptAt}
 use Rattle.tree.proofs.Arrivals.{fails, holds}
 use Rattle.whole.proofs.Sweeping.{pool-place, pool-fails, pool-next, pool-end}
 use Prim.Native.Nat.{_+_, _*_, _-_, _≤_}
@@ -11,7 +10,6 @@ use mathlib.Core.Path.{_≡_}
 use mathlib.Core.Bool.{true}
 use native.Mathlib.Omega.{arith}
 use borrow.Author.Needs.{needs}
-use lib.ListN.{getD}
 use Rattle.whole.proofs.sweep.sweep_pool.Statement.{statement}
 use Rattle.whole.proofs.sweep.sweep_pool.Tie as tie
 
@@ -25,13 +23,13 @@ loop-holds : tie.Need-loop-holds Inv-loop μ-loop
 loop-holds c = (omega arith, refl)
 
 cast-loop : tie.Need-cast-loop Inv-loop μ-loop
-cast-loop c = omega (arith, cap-small (framed (c .before .before .before .before .before .pre .0)) (c .before .before .before .before .before .args .kind) (omega (arith, c .before .before .before .before .before .pre .1)))
+cast-loop c = omega (arith, caps-most (framed (c .before .before .before .before .before .pre .0)) (c .before .before .before .before .before .args .kind) (omega (arith, c .before .before .before .before .before .pre .1)))
 
 mul-swept-at : tie.Need-mul-swept-at Inv-loop μ-loop
-mul-swept-at c = omega (arith, cap-small (framed (c .before .before .before .before .before .before .pre .0)) (c .before .before .before .before .before .before .args .kind) (omega (arith, c .before .before .before .before .before .before .pre .1)))
+mul-swept-at c = omega (arith, caps-most (framed (c .before .before .before .before .before .before .pre .0)) (c .before .before .before .before .before .before .args .kind) (omega (arith, c .before .before .before .before .before .before .pre .1)))
 
 add-swept-at : tie.Need-add-swept-at Inv-loop μ-loop
-add-swept-at c = omega (arith, cap-small (framed (c .before .before .before .before .before .before .pre .0)) (c .before .before .before .before .before .before .args .kind) (omega (arith, c .before .before .before .before .before .before .pre .1)))
+add-swept-at c = omega (arith, caps-most (framed (c .before .before .before .before .before .before .pre .0)) (c .before .before .before .before .before .before .args .kind) (omega (arith, c .before .before .before .before .before .before .pre .1)))
 
 swept-at-requires : tie.Need-swept-at-requires Inv-loop μ-loop
 swept-at-requires c κs = (c .before .before .before .before .before .before .pre .0, pool-place (c .before .before .before .before .before .before .pre .0) (c .before .before .before .before .before .before .args .kind) (c .before .loop .i) (omega (arith, c .before .before .before .before .before .before .pre .1)) (omega arith))
@@ -42,7 +40,7 @@ returns c =
     pool-fails (s .f) (s .words .now) (s .keys .now) (s .marks .now) (s .kind) (c .before .before .before .loop .i) (omega arith) (fails (c .before .swept-at .ensures) (c .if1 .taken))
 
 add-i : tie.Need-add-i Inv-loop μ-loop
-add-i c = omega (arith, cap-small (framed (c .before .before .before .before .before .before .before .before .pre .0)) (c .before .before .before .before .before .before .before .before .args .kind) (omega (arith, c .before .before .before .before .before .before .before .before .pre .1)))
+add-i c = omega (arith, caps-most (framed (c .before .before .before .before .before .before .before .before .pre .0)) (c .before .before .before .before .before .before .before .before .args .kind) (omega (arith, c .before .before .before .before .before .before .before .before .pre .1)))
 
 loop-again : tie.Need-loop-again Inv-loop μ-loop
 loop-again c =

@@ -1,5 +1,5 @@
 -- `well_formed::child_end` meets its contract: each return is a case of `childEnd`.
-use mathlib.Core.Path.{subst, sym, _∙_}
+use mathlib.Core.Path.{sym, _∙_}
 use Rattle.whole.proofs.Turns.{child-ill, child-well, child-parts, first-seen, sees-leaf}
 use borrow.Author.Needs.{needs}
 use Rattle.whole.proofs.well_formed.child_end.Statement.{statement}

@@ -1,5 +1,5 @@
 -- `well_formed::turn_of` meets its contract: each return is a case of `turnOf`.
-use mathlib.Core.Path.{subst, ap, sym, _∙_}
+use mathlib.Core.Path.{subst}
 use native.Mathlib.Omega.{arith}
 use Rattle.whole.specs.Arrive.{There}
 use Rattle.whole.proofs.Turns.{turn-leaf, turn-inner, turn-broken}

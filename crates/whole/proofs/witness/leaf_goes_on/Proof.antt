@@ -1,5 +1,4 @@
 -- `witness::leaf_goes_on` meets its contract: it compares the two leaves' tags.
-use mathlib.Core.Path.{ap, _∙_}
 use borrow.Author.Needs.{needs}
 use Rattle.whole.proofs.witness.leaf_goes_on.Statement.{statement}
 use Rattle.whole.proofs.witness.leaf_goes_on.Tie as tie
