@@ -7,6 +7,7 @@ pub mod Frames
 pub mod KeyBytes
 pub mod Totals
 pub mod Steps
+pub mod Sums
 pub mod Inner
 pub mod Histories
 pub mod Swaps
