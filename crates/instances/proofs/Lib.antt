@@ -2,6 +2,7 @@ pub mod Sounds
 pub mod Conditions
 pub mod Edits
 pub mod Numbers
+mod Capacity
 mod Rows
 mod Ways
 mod Demands

@@ -1,0 +1,1 @@
+// With which capacities no insert lacks an inner record: theorems alone, no code.
