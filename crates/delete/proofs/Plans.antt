@@ -6,7 +6,7 @@ use mathlib.Core.List.{List, []}
 use mathlib.Core.Option.{none, some}
 use mathlib.Core.Bool.{Bool, true, false}
 use native.Mathlib.Omega.{arith}
-use borrow.Author.Tests.{leb-true, leb-false, le-leb, ne-eqb}
+use borrow.Author.Tests.{leb-true, leb-false, le-leb, ltb-false, ne-eqb}
 use lib.ListN.{length, getD}
 use lib.Dec.{leb, ltb}
 use Rattle.states.proofs.OneCell.{used-pool}
@@ -26,7 +26,7 @@ use Rattle.art.specs.Listings.{lookup}
 use Rattle.art.specs.Facts.{height}
 use Rattle.art.specs.Deletes.{Home}
 use Rattle.art.specs.Drops.{Roomy}
-use Rattle.art.specs.Stores.{Place, leaf-place, inner-place, unused, leaf-cell, Store, Used, root, refs, store, Once}
+use Rattle.art.specs.Stores.{Place, leaf-place, inner-place, Cell, unused, leaf-cell, Store, Used, root, refs, store, Once}
 use Rattle.art.specs.Refs.{Refs, find-ref, cut-ref}
 use Rattle.art.specs.Chain.{Links}
 use Rattle.art.specs.Points as art
@@ -36,7 +36,8 @@ use Rattle.art.proofs.Walks.{store-shows}
 use Rattle.art.proofs.FitPoints.{point-fits}
 use Rattle.art.proofs.AlterPoints.{point-finds}
 use Rattle.pools.specs.Pool.{lowestFree}
-use Rattle.view.proofs.Pools.{lowest-free}
+use Rattle.view.proofs.Pools.{lowest-free, none-free}
+use Rattle.view.proofs.Views.{cell-used}
 use Rattle.reading.specs.Shown.{Shown}
 use Rattle.points.specs.Point.{pointOf}
 use Rattle.points.specs.declared.insert_point.Up.{Up}
@@ -47,23 +48,25 @@ use Rattle.writes.specs.declared.leaf_node.Gap.{Gap}
 use Rattle.pointed.specs.Told.{upTold, told}
 use Rattle.states.specs.State.{State}
 use Rattle.states.proofs.Steps.{state-count-word, state-leaf, state-zero}
-use Rattle.states.proofs.Standing.{ref-some, stands}
+use Rattle.states.proofs.Standing.{ref-some, shown-at, stands}
 use Rattle.delete.specs.declared.plan.Cut.{Cut}
 use Rattle.delete.specs.declared.plan.Cut.the-variants.{Stay, Shrink}
 use Rattle.delete.specs.declared.plan.Plan.{Plan}
 use Rattle.delete.specs.declared.plan.Plan.the-variants as plan
 use Rattle.delete.specs.Plan.{otherEntry, mergeCut, shrinkCut, cutUnder, cutOf, gapOf, pointPlan, planOf}
+use Rattle.delete.specs.Without.{Goes, stays, shrinks, crowded, Settles}
 use Rattle.pointed.proofs.Points.{tag-bytes, point-shown}
 use Rattle.pointed.proofs.Aparts.{up-apart, upper-apart}
 use Rattle.pointed.proofs.Ups.{inner-here}
 use Rattle.delete.proofs.Unders.{Under, UpUnder, PointUnder, point-under}
-use Rattle.delete.proofs.Lefts.{other-left}
+use Rattle.delete.proofs.Lefts.{cut-length, other-left}
 use Rattle.delete.proofs.Cuts.{Pruned, stayHome, shrinkHome, root-done, stay-done, shrink-done, merge-done}
 
--- a cut may be made, with homes that are free
+-- a cut may be made, with homes that are free, and the record above goes where it should
 pub record CutFits (f : Frame) (words keys : List ℕ) (σ : Store Held) (links : Links) (count : ℕ) (cut : Cut) (upper up : art.Up) (o : Place) : Type 0 where
   pub home : Home
   pub roomy : Roomy home σ
+  pub settles : Settles f σ home up
   pub done : Pruned f words keys σ links count cut home upper up o
 
 -- ── the cut ──
@@ -86,20 +89,26 @@ module _ {f : Frame} {words keys : List ℕ} {σ : Store Held} {links : Links} {
   pool : inPool f x ≡ true
   pool = used-pool s x here-used
 
-  stay-fits : 3 ≤ length rs → Fits (Stay ref b)
-  stay-fits three = record { home = stayHome; roomy = λ k n l. inl refl; done = stay-done s near far o er upper ref b y w three }
+  -- where it goes with one child less
+  settles-by : (hm : Home) → ((l : ℕ) → suc l ≡ length rs → 2 ≤ l → Goes f σ (ref % 8) l ((hm (ref % 8) (ref / 8) l) .0)) → Settles f σ hm (art.via (ref % 8) (ref / 8) b)
+  settles-by hm goes =
+      subst (λ (c : Cell Held). let l : ℕ = length (cut-ref b (art.cell-refs c)) in 2 ≤ l → Goes f σ (ref % 8) l ((hm (ref % 8) (ref / 8) l) .0)) (sym (w .shown))
+      (λ two. goes (length (cut-ref b rs)) (cut-length b rs y (w .child-is)) two)
+
+  stay-fits : 3 ≤ length rs → ((l : ℕ) → suc l ≡ length rs → 2 ≤ l → Goes f σ (ref % 8) l (ref % 8)) → Fits (Stay ref b)
+  stay-fits three goes = record { home = stayHome; roomy = λ k n l. inl refl; settles = settles-by stayHome goes; done = stay-done s near far o er upper ref b y w three }
 
   -- two children, of which one is left
-  merge-row : (row : List (ℕ × ℕ)) → length row ≡ 2 → places row ≡ rs → Fits (mergeCut upper ref b (otherEntry b row))
-  merge-row row two e =
+  merge-row : length rs ≡ 2 → (row : List (ℕ × ℕ)) → length row ≡ 2 → places row ≡ rs → Fits (mergeCut upper ref b (otherEntry b row))
+  merge-row left row two e =
       let other = other-left b row y two (ap (λ (l : Refs). find-ref l b) e ∙ w .child-is) in
       subst (λ (i : Entry). Fits (mergeCut upper ref b i)) (sym (other .is))
-      (record { home = stayHome; roomy = λ k n l. inl refl; done = merge-done s near far o er upper ref b y w (other .byte) (other .ref) (ap (cut-ref b) (sym e) ∙ other .left) })
+      (record { home = stayHome; roomy = λ k n l. inl refl; settles = settles-by stayHome (λ l i more. absurd (omega arith)); done = merge-done s near far o er upper ref b y w (other .byte) (other .ref) (ap (cut-ref b) (sym e) ∙ other .left) })
 
   merge-fits : length rs ≡ 2 → Fits (mergeCut upper ref b (otherEntry b (rowAt (f .form) (ref % 8) (recordAt f words x))))
   merge-fits two =
       let here = stands s (ref % 8) (ref / 8) _ _ rs (w .shown) in
-      merge-row (rowAt (f .form) (ref % 8) (recordAt f words x)) (here .size ∙ two) (here .refs-are)
+      merge-row two (rowAt (f .form) (ref % 8) (recordAt f words x)) (here .size ∙ two) (here .refs-are)
 
   -- a smaller kind has room, and a free record or not
   shrink-fits : 3 ≤ length rs → length rs ≤ markOf (ref % 8) + 1 → Fits (shrinkCut f words upper ref b)
@@ -120,13 +129,15 @@ module _ {f : Frame} {words keys : List ℕ} {σ : Store Held} {links : Links} {
       room false e i = absurd (omega arith)
 
       go : (t : Bool) → ltb m (getD (f .caps) j 0) ≡ t → Fits (choose t (Shrink upper ref (m * 8 + j) b) (Stay ref b))
-      go false t = stay-fits three
+      go false t =
+          stay-fits three (λ l i two. crowded refl (omega arith) (λ n p. subst Used (shown-at s (inner-place j n)) (cell-used f words keys (inner-place j n) p (none-free f words (inner-place j n) p (ltb-false _ _ t)))))
       go true t =
           let new-pool : inPool f (inner-place j m) ≡ true = and-both (le-leb j 4 (omega (arith, kind .1))) t in
           let free : σ (inner-place j m) ≡ unused = state-zero s (inner-place j m) new-pool (lowest-free f words (inner-place j m) new-pool refl) in
           record {
             home = shrinkHome j m;
             roomy = λ k n l. inr free;
+            settles = settles-by (shrinkHome j m) (λ l i two. shrinks (omega (arith, kind .0)) (omega arith));
             done = shrink-done s near far o er upper ref b y w j m new-pool free three (room (leb 2 (ref % 8)) refl (kind-rules (ref % 8) (kind .0) (kind .1) .mark));
           }
 
@@ -148,7 +159,7 @@ module _ {f : Frame} {words keys : List ℕ} {σ : Store Held} {links : Links} {
           → Fits (choose t (mergeCut upper ref b (otherEntry b (rowAt (f .form) (ref % 8) (recordAt f words x)))) (choose u (shrinkCut f words upper ref b) (Stay ref b)))
       go true t u e = merge-fits (omega (arith, leb-true (length rs) 2 t, count-refs (w .row), w .many))
       go false t true e = shrink-fits (omega (arith, leb-false (length rs) 2 t)) (leb-true (length rs) (markOf (ref % 8) + 1) e)
-      go false t false e = stay-fits (omega (arith, leb-false (length rs) 2 t))
+      go false t false e = stay-fits (omega (arith, leb-false (length rs) 2 t)) (λ l i two. stays refl (omega (arith, leb-false (length rs) (markOf (ref % 8) + 1) e)))
 
 -- ── the plan ──
 -- the leaf n holds the tag, its neighbours are as said, and the cut may be made
@@ -189,7 +200,7 @@ module _ {f : Frame} {words keys : List ℕ} {links : Links} {rootRef size : ℕ
   under = point-under (suc (height t)) t good once deep tag
 
   cut-of : (upper up : Up) (y : Place) → UpUnder σ (root t) (upTold upper) (upTold up) y → CutFits f words keys σ links size (cutOf f words upper up) (upTold upper) (upTold up) (root t)
-  cut-of upper Top y w = record { home = stayHome; roomy = λ k n l. inl refl; done = root-done s stayHome (upTold upper) (root t) }
+  cut-of upper Top y w = record { home = stayHome; roomy = λ k n l. inl refl; settles = tt; done = root-done s stayHome (upTold upper) (root t) }
   cut-of upper (Via ref b) y w = under-fits s (up-apart t once) (upper-apart t once) (root t) er upper ref b y w
 
   point-plan : (p : Point) → told p ≡ pt → PlanFits f words keys tag t links size (pointPlan f words p)

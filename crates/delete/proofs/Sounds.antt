@@ -41,6 +41,7 @@ use Rattle.states.proofs.Sounds.{sound-state, state-sound}
 use Rattle.delete.specs.declared.plan.Cut.{Cut}
 use Rattle.delete.specs.declared.plan.Plan.the-variants.{Take}
 use Rattle.delete.specs.Plan.{planOf}
+use Rattle.delete.specs.Without.{SettlesAt, Without, WithoutFrom}
 use Rattle.delete.specs.Apply.{pruned, goneWords}
 use Rattle.delete.proofs.Cuts.{rootRef}
 use Rattle.delete.proofs.Neighbours.{ends-used}
@@ -127,19 +128,24 @@ module _ (words keys tag : List ℕ) (cut : Cut) (n : ℕ) (gap : Gap) (t : Tree
       (cut-linked numberOf links t (shown .good) (shown .once) (numbered shown) home tag (o .held) (o .found) (shown .linked)))
       (omega (arith, s .count-is, cut-count t (shown .good) home tag (o .held) (o .found)))
 
-  gone-held : FrameOf f (goneWords f cut n gap words) (keyOut f n keys) × (s′ : Sound (goneWords f cut n gap words) (keyOut f n keys)) × (held (s′ .tree) ≡ leave tag (contents t))
-  gone-held = (gone .frame, gone-sound .0, ap held (gone-sound .1) ∙ change-held t (shown .good) (λ a. none) home tag)
+  gone-held : FrameOf f (goneWords f cut n gap words) (keyOut f n keys) × (s′ : Sound (goneWords f cut n gap words) (keyOut f n keys)) × (held (s′ .tree) ≡ leave tag (contents t)) × Without f t tag (s′ .tree)
+  gone-held = (
+    gone .frame,
+    gone-sound .0,
+    ap held (gone-sound .1) ∙ change-held t (shown .good) (λ a. none) home tag,
+    record { home = home; roomy = o .cut-fits .roomy; settles = subst (SettlesAt f σ home) (sym (o .at)) (o .cut-fits .settles); tree-is = gone-sound .1 },
+  )
 
 module _ {words keys : List ℕ} (s : Sound words keys) (tag : List ℕ) (bytes : all (atMost 255) tag ≡ true) (cut : Cut) (n : ℕ) (gap : Gap) (e : planOf (frame words) words keys tag ≡ Take cut n gap) where
   abbrev now : List ℕ
   now = goneWords (frame words) cut n gap words
 
-  left-sound : FrameOf (frame words) now (keyOut (frame words) n keys) × (s′ : Sound now (keyOut (frame words) n keys)) × (held (s′ .tree) ≡ leave tag (held (s .tree)))
+  left-sound : FrameOf (frame words) now (keyOut (frame words) n keys) × (s′ : Sound now (keyOut (frame words) n keys)) × (held (s′ .tree) ≡ leave tag (held (s .tree))) × WithoutFrom (frame words) (s .tree) tag (s′ .tree)
   left-sound = go (s .tree) (sound-shown s) (sound-state s) (subst (SoundFits words keys tag (s .tree)) e (sound-fits tag bytes s))
     where
       go : (d : Option (Tree Held)) → Shown (frame words) words keys d → State (frame words) words keys (art.store-of d) (linksOf (frame words) words) (rootWord words) (length (held d))
           → SoundFits words keys tag d (Take cut n gap)
-          → FrameOf (frame words) now (keyOut (frame words) n keys) × (s′ : Sound now (keyOut (frame words) n keys)) × (held (s′ .tree) ≡ leave tag (held d))
+          → FrameOf (frame words) now (keyOut (frame words) n keys) × (s′ : Sound now (keyOut (frame words) n keys)) × (held (s′ .tree) ≡ leave tag (held d)) × WithoutFrom (frame words) d tag (s′ .tree)
       go none shown st h = absurd h
       go (some t) shown st o = gone-held words keys tag cut n gap t shown st o
 
@@ -150,3 +156,7 @@ module _ {words keys : List ℕ} (s : Sound words keys) (tag : List ℕ) (bytes 
   -- it is sound, and holds what it held without the tag
   pub delete-sound : (s′ : Sound (goneWords (frame words) cut n gap words) (keyOut (frame words) n keys)) × (held (s′ .tree) ≡ leave tag (held (s .tree)))
   delete-sound = (left-sound .1, left-sound .2)
+
+  -- its tree is the one before without the tag, where the record above the leaf went as it should
+  pub delete-without : (s′ : Sound (goneWords (frame words) cut n gap words) (keyOut (frame words) n keys)) × WithoutFrom (frame words) (s .tree) tag (s′ .tree)
+  delete-without = (left-sound .1, left-sound .3)

@@ -3,3 +3,4 @@ pub mod Plan
 pub mod Apply
 pub mod Delete
 pub mod Meets
+pub mod Without

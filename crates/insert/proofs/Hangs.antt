@@ -16,6 +16,7 @@ use Rattle.records.specs.View.{Held, cellOf}
 use Rattle.art.specs.Tags.{Tag}
 use Rattle.art.specs.Listings.{Every}
 use Rattle.art.specs.Trees.{Tree, contents}
+use Rattle.art.specs.Changes.{Plan}
 use Rattle.art.specs.Puts.{Apart}
 use Rattle.art.specs.Verdicts.{free}
 use Rattle.art.specs.Facts.{height}
@@ -29,7 +30,9 @@ use Rattle.art.proofs.Checks.{used-or-free}
 use Rattle.art.proofs.Verdicts.{free-apart}
 use Rattle.art.proofs.Walks.{store-shows}
 use Rattle.art.proofs.InsertPoints.{point-judges}
+use Rattle.view.specs.Pools.{FreeAt}
 use Rattle.view.proofs.Pools.{kind-free}
+use Rattle.view.proofs.Views.{cell-used}
 use Rattle.reading.specs.Answers.{Bytes}
 use Rattle.reading.specs.Shown.{Shown}
 use Rattle.reading.proofs.Entries.{shown-root, zero-unused, tree-shows}
@@ -37,6 +40,7 @@ use Rattle.whole.specs.Witness.{tagAt}
 use Rattle.points.specs.Point.{pointOf}
 use Rattle.points.specs.declared.insert_point.Point.{Point}
 use Rattle.states.specs.State.{State}
+use Rattle.states.proofs.Standing.{shown-at}
 use Rattle.states.proofs.Steps.{state-zero}
 use Rattle.writes.specs.Above.{linkUp}
 use Rattle.pointed.specs.Told.{upTold, told}
@@ -44,19 +48,22 @@ use Rattle.pointed.proofs.Aparts.{up-apart}
 use Rattle.pointed.proofs.Ups.{up-edits, up-root}
 use Rattle.insert.specs.declared.plan.Site.{Site}
 use Rattle.insert.specs.Apply.{forked, hung}
+use Rattle.insert.specs.Grown.{Smallest, Chosen}
 use Rattle.insert.proofs.Plans.{Planned, first, adds, grows, forks}
 use Rattle.insert.proofs.Runs.{PlaceRun}
-use Rattle.insert.proofs.Intos.{add-state, grow-state}
+use Rattle.insert.proofs.Intos.{into-full, add-state, grow-state}
 use Rattle.insert.proofs.Forks.{fork-tag, fork-state}
 use Rattle.insert.proofs.Ready.{bytes-all, told-point, into-fits, into-byte, fork-fits, fork-run, fork-there}
-use Rattle.insert.proofs.Plants.{Planted, add-planted, grow-planted, fork-planted}
+use Rattle.insert.proofs.Plants.{stayPlan, movePlan, forkPlan, Planted, add-planted, grow-planted, fork-planted}
 
--- the block shows τ, with ref for its root, which is the grown tree but for the leaf; and the tag is apart from every held one
+-- the block shows τ, with ref for its root, which is the tree grown by a plan but for the leaf; and the tag is apart from every held one
 pub record Hung (f : Frame) (words keys : List ℕ) (t : Tree Held) (tag : Tag) (n : ℕ) (links : Links) (count : ℕ) : Type 0 where
+  pub plan : Plan
   pub cells : Store Held
   pub ref : ℕ
   pub state : State f words keys cells links ref count
-  pub planted : Planted t tag n cells ref
+  pub planted : Planted t tag n plan cells ref
+  pub chosen : Chosen f (store t []) plan (point (suc (height t)) (store t []) (root t) tag)
   pub apart : Every (Apart tag) (contents t)
 
 -- a block that shows a tree has a root
@@ -88,26 +95,37 @@ module _ {f : Frame} {words keys : List ℕ} {t : Tree Held} {links : Links} {co
   tag-apart p e v =
       free-apart tag (contents t) (some-inj (sym (point-judges most σ t (s .good) (store-shows t [] (s .once)) (omega arith) tag) ∙ ap point-verdict (at p e) ∙ v))
 
+  -- records of the smaller kinds are in use
+  smallest : (kind k m : ℕ) → FreeAt f words kind k m → Smallest f σ kind k
+  smallest kind k m h = (h .from, λ j i l less p. subst Used (shown-at st (inner-place j i)) (cell-used f words keys (inner-place j i) p (h .smaller j i l less p)))
+
+  takes : (p : Point) → pointOf f words keys tag (rootWord words) ≡ p → (plan : Plan) → Chosen f σ plan (told p) → Chosen f σ plan (point most σ (root t) tag)
+  takes p e plan h = subst (Chosen f σ plan) (sym (at p e)) h
+
   pub hung-tree : (site : Site) → Planned f words keys tag site → Hung f (hung f keys tag site (leaf-ref n) words) keys t tag n links count
   unfolding hung
   hung-tree site (first z) = absurd (root-not s z)
   hung-tree site (adds up ref byte u e room) =
       let fits = into-fits s tag tag-bytes up ref byte e in
       record {
+        plan = stayPlan n;
         cells = _;
         ref = refOf (root t);
         state = add-state st tag up ref byte fits room (into-byte s tag tag-bytes up ref byte e) n pool;
         planted = add-planted t (s .good) (s .once) most (omega arith) tag n new (upTold up) (ref % 8) (ref / 8) byte fits (at _ e) spare (refOf (root t)) refl;
+        chosen = takes _ e (stayPlan n) (inl refl);
         apart = tag-apart _ e refl;
       }
-  hung-tree site (grows up ref byte k m u e fr) =
+  hung-tree site (grows up ref byte k m u e full fr) =
       let fits = into-fits s tag tag-bytes up ref byte e in
       let f′ = kind-free f words (suc (ref % 8)) k m fr in
       record {
+        plan = movePlan n k m;
         cells = _;
         ref = up-root (upTold up) (refOf (root t)) (m * 8 + k);
         state = grow-state st tag up ref byte fits (up-apart t (s .once)) (into-byte s tag tag-bytes up ref byte e) n pool k m f′;
         planted = grow-planted t (s .good) (s .once) most (omega arith) tag n new (upTold up) (ref % 8) (ref / 8) byte fits (at _ e) spare k m (state-zero st (inner-place k m) (f′ .pool) (f′ .free)) (refOf (root t)) refl;
+        chosen = takes _ e (movePlan n k m) (inr (into-full st tag up ref byte fits full, smallest (suc (ref % 8)) k m f′));
         apart = tag-apart _ e refl;
       }
   hung-tree site (forks up ref leaf d c k m u e fr) =
@@ -119,11 +137,13 @@ module _ {f : Frame} {words keys : List ℕ} {t : Tree Held} {links : Links} {co
       let y : Place = placeAt ref in
       let made : Tag → Store Held = λ v. apply (write (apply σ (shorten v d c y (σ y))) (inner-place k m) (inner-cell c (take 8 (take c (drop d tag))) (pair-ref (getD tag (d + c) 0) (leaf-place n) (getD v (d + c) 0) y))) (up-edits σ (upTold up) (inner-place k m)) in
       record {
+        plan = forkPlan n k m;
         cells = made (tag-at σ (leaf / 8));
         ref = up-root (upTold up) (refOf (root t)) (m * 8 + k);
         state = subst (λ (v : Tag). State f (linkUp f up (m * 8 + k) (forked f ref (m * 8 + k) tag (tagAt f words keys leaf) d c (leaf-ref n) words)) keys (made v) links (up-root (upTold up) (refOf (root t)) (m * 8 + k)) count)
             (sym (fork-tag st (up-apart t (s .once)) tag up ref leaf d c fits run there (bytes-all tag tag-bytes) (bytes-all keys key-bytes) short n pool k m f′))
             (fork-state st (up-apart t (s .once)) tag up ref leaf d c fits run there (bytes-all tag tag-bytes) (bytes-all keys key-bytes) short n pool k m f′);
         planted = fork-planted t (s .good) (s .once) most (omega arith) tag n new (upTold up) y (leaf / 8) d c (at _ e) k m free′ (run-used σ y (leaf / 8) d c k m run free′) (refOf (root t)) refl;
+        chosen = takes _ e (forkPlan n k m) (smallest 1 k m f′);
         apart = tag-apart _ e refl;
       }

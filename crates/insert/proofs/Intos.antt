@@ -18,7 +18,7 @@ use Rattle.art.specs.Tags.{Tag}
 use Rattle.art.specs.Stores.{Place, leaf-place, inner-place, Cell, unused, inner-cell, Store, write, apply, Used}
 use Rattle.art.specs.Refs.{Refs, add-ref}
 use Rattle.art.specs.Chain.{Links, leaf-ref}
-use Rattle.art.specs.Points.{ChildAt, IntoFits}
+use Rattle.art.specs.Points.{cell-refs, ChildAt, IntoFits}
 use Rattle.art.proofs.Stores.{used-not, write-same, write-write, write-comm}
 use Rattle.view.specs.Pools.{FreeAt}
 use Rattle.points.specs.There.{InnerHere, UpThere}
@@ -74,6 +74,10 @@ module _ {f : Frame} {words keys : List ℕ} {σ : Store Held} {links : Links} {
 
   into-count : getD (recordAt f words x) 1 0 ≡ length rs
   into-count = state-count-word s (ref % 8) (ref / 8) len st rs (fits .record-at .shown)
+
+  pub into-full : childrenOf (ref % 8) ≤ getD (recordAt f words (placeAt ref)) 1 0 → childrenOf (ref % 8) ≤ length (cell-refs (σ x))
+  into-full h =
+      omega (arith, h, ap (λ (y : Place). getD (recordAt f words y) 1 0) into-place, into-count, ap (λ (c : Cell Held). length (cell-refs c)) (fits .record-at .shown))
 
   -- ── in place ──
   module _ (room : getD (recordAt f words (placeAt ref)) 1 0 < childrenOf (ref % 8)) where

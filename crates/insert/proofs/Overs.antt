@@ -60,6 +60,7 @@ use Rattle.insert.specs.declared.plan.Choice.{Choice}
 use Rattle.insert.specs.declared.plan.Choice.the-variants.{At, Nowhere}
 use Rattle.insert.specs.declared.plan.Plan.the-variants.{Over, NoLeaf}
 use Rattle.insert.specs.Plan.{intoChoice, forkChoice, newPlan, sitePlan, leafPlan, pointPlan, planOf}
+use Rattle.insert.specs.Grown.{AlteredFrom}
 use Rattle.insert.proofs.Ready.{told-point, told-fits}
 
 -- ── the plan taken apart ──
@@ -156,12 +157,12 @@ module _ {f : Frame} {words keys : List ℕ} {t : Tree Held} (s : Shown f words 
         subst (λ (v : Verdict). OnceOf (insert-tree v stay t tag (fits .held) (newTotal total) none)) is-known
         (call-once (some t) (s .once) stay (insert tag (fits .held) (newTotal total) none) tt)
 
-    tree-over : (s′ : Sound (totalAt f (leaf / 8) total words) keys) × (held (s′ .tree) ≡ alter (λ h. some (newTotal total h)) tag (contents t))
+    tree-over : (s′ : Sound (totalAt f (leaf / 8) total words) keys) × (held (s′ .tree) ≡ alter (λ h. some (newTotal total h)) tag (contents t)) × AlteredFrom (some t) tag total (s′ .tree)
     tree-over =
         let done = state-sound d over-state (change-sane t (s .good) (λ h. some (newTotal total h)) stay tag) over-once (rooted-by d (rootWord words) (root t) (alter-moves t (newTotal total) stay tag) rooted)
         (subst (Linked (linksOf f words) 0) (sym (change-leaves numberOf t (s .good) (numbered s) (newTotal total) (λ h. refl) stay tag)) (s .linked))
         (sym (change-count t (s .good) (newTotal total) stay tag)) in
-        (done .0, ap held (done .1) ∙ change-held t (s .good) (λ h. some (newTotal total h)) stay tag)
+        (done .0, ap held (done .1) ∙ change-held t (s .good) (λ h. some (newTotal total h)) stay tag, done .1)
 
 module _ {words keys : List ℕ} (s : Sound words keys) (tag : List ℕ) (bytes : Bytes tag) (leaf : ℕ) (e : planOf (frame words) words keys tag ≡ Over leaf) where
   abbrev f : Frame
@@ -185,11 +186,18 @@ module _ {words keys : List ℕ} (s : Sound words keys) (tag : List ℕ) (bytes 
       go none sh st r = absurd (plan-over f words keys tag leaf e .root r)
       go (some t) sh st r = over-state sh st r tag bytes leaf (plan-over f words keys tag leaf e) total .frame
 
-  -- it is sound, and its list has the tag with the total
-  pub over-sound : (total : ℕ) → (s′ : Sound (totalAt (frame words) (leaf / 8) total words) keys) × (held (s′ .tree) ≡ alter (λ h. some (newTotal total h)) tag (held (s .tree)))
-  over-sound total = go (s .tree) (sound-shown s) (sound-state s) (s .rooted)
+  now-holds : (total : ℕ) → (s′ : Sound (totalAt f (leaf / 8) total words) keys) × (held (s′ .tree) ≡ alter (λ h. some (newTotal total h)) tag (held (s .tree))) × AlteredFrom (s .tree) tag total (s′ .tree)
+  now-holds total = go (s .tree) (sound-shown s) (sound-state s) (s .rooted)
     where
       go : (d : Option (Tree Held)) → Shown f words keys d → State f words keys (store-of d) (linksOf f words) (rootWord words) (length (held d)) → Rooted (rootWord words) d
-          → (s′ : Sound (totalAt f (leaf / 8) total words) keys) × (held (s′ .tree) ≡ alter (λ h. some (newTotal total h)) tag (held d))
+          → (s′ : Sound (totalAt f (leaf / 8) total words) keys) × (held (s′ .tree) ≡ alter (λ h. some (newTotal total h)) tag (held d)) × AlteredFrom d tag total (s′ .tree)
       go none sh st r = absurd (plan-over f words keys tag leaf e .root r)
       go (some t) sh st r = tree-over sh st r tag bytes leaf (plan-over f words keys tag leaf e) total
+
+  -- it is sound, and its list has the tag with the total
+  pub over-sound : (total : ℕ) → (s′ : Sound (totalAt (frame words) (leaf / 8) total words) keys) × (held (s′ .tree) ≡ alter (λ h. some (newTotal total h)) tag (held (s .tree)))
+  over-sound total = let z = now-holds total in (z .0, z .1)
+
+  -- its tree is the one before with that total
+  pub over-altered : (total : ℕ) → (s′ : Sound (totalAt (frame words) (leaf / 8) total words) keys) × AlteredFrom (s .tree) tag total (s′ .tree)
+  over-altered total = let z = now-holds total in (z .0, z .2)

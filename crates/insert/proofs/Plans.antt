@@ -1,5 +1,5 @@
 -- A plan for a new leaf, taken apart: its point, the free records that it takes, and the leaf's place in the list.
-use Prim.Native.Nat.{ℕ, suc, _+_, _*_, _%_, _<_}
+use Prim.Native.Nat.{ℕ, suc, _+_, _*_, _%_, _≤_, _<_}
 use mathlib.Core.Path.{_≡_, refl, ap, subst}
 use mathlib.Core.Logic.{_≢_}
 use mathlib.Core.List.{List}
@@ -7,7 +7,7 @@ use mathlib.Core.Bool.{Bool, true, false}
 use native.Mathlib.Omega.{arith}
 use lib.ListN.{getD}
 use lib.Dec.{eqb, ltb}
-use borrow.Author.Tests.{eqb-true, eqb-false, ltb-true}
+use borrow.Author.Tests.{eqb-true, eqb-false, ltb-true, ltb-false}
 use Rattle.lists.specs.Scan.{choose}
 use Rattle.frames.specs.Kind.{childrenOf}
 use Rattle.frames.specs.Frame.{rootWord}
@@ -71,7 +71,7 @@ pub data Planned (f : Frame) (words keys tag : List ℕ) : Site → Type 0 where
   adds : (up : Up) (ref byte : ℕ) → rootWord words ≢ 0 → pointOf f words keys tag (rootWord words) ≡ point.Into up ref byte
       → getD (recordAt f words (placeAt ref)) 1 0 < childrenOf (ref % 8) → Planned f words keys tag (Add ref byte)
   grows : (up : Up) (ref byte k n : ℕ) → rootWord words ≢ 0 → pointOf f words keys tag (rootWord words) ≡ point.Into up ref byte
-      → freeKind f words (suc (ref % 8)) ≡ free.At k n → Planned f words keys tag (Grow up ref (n * 8 + k) byte)
+      → childrenOf (ref % 8) ≤ getD (recordAt f words (placeAt ref)) 1 0 → freeKind f words (suc (ref % 8)) ≡ free.At k n → Planned f words keys tag (Grow up ref (n * 8 + k) byte)
   forks : (up : Up) (ref leaf d c k n : ℕ) → rootWord words ≢ 0 → pointOf f words keys tag (rootWord words) ≡ point.Fork up ref leaf d c
       → freeKind f words 1 ≡ free.At k n → Planned f words keys tag (Fork up ref (n * 8 + k) leaf d c)
 
@@ -80,14 +80,14 @@ module _ (f : Frame) (words keys tag : List ℕ) (site : Site) (used : rootWord 
   unfolding intoChoice
   into-is up ref byte p e = go (ltb (getD (recordAt f words (placeAt ref)) 1 0) (childrenOf (ref % 8))) refl e
     where
-      grow : (o : Free) → freeKind f words (suc (ref % 8)) ≡ o → growChoice up ref byte o ≡ At site → Planned f words keys tag site
-      grow (free.At k n) q h = subst (Planned f words keys tag) (let i : Grow up ref (n * 8 + k) byte ≡ site = cc in i) (grows up ref byte k n used p q)
-      grow free.Nowhere q h = absurd (let z : _≡_ {A = ℕ} 0 1 = cc in omega arith)
+      grow : childrenOf (ref % 8) ≤ getD (recordAt f words (placeAt ref)) 1 0 → (o : Free) → freeKind f words (suc (ref % 8)) ≡ o → growChoice up ref byte o ≡ At site → Planned f words keys tag site
+      grow full (free.At k n) q h = subst (Planned f words keys tag) (let i : Grow up ref (n * 8 + k) byte ≡ site = cc in i) (grows up ref byte k n used p full q)
+      grow full free.Nowhere q h = absurd (let z : _≡_ {A = ℕ} 0 1 = cc in omega arith)
 
       go : (b : Bool) → ltb (getD (recordAt f words (placeAt ref)) 1 0) (childrenOf (ref % 8)) ≡ b → choose b (At (Add ref byte)) (growChoice up ref byte (freeKind f words (suc (ref % 8)))) ≡ At site
           → Planned f words keys tag site
       go true t h = subst (Planned f words keys tag) (let i : Add ref byte ≡ site = cc in i) (adds up ref byte used p (ltb-true _ _ t))
-      go false t h = grow (freeKind f words (suc (ref % 8))) refl h
+      go false t h = grow (ltb-false _ _ t) (freeKind f words (suc (ref % 8))) refl h
 
   fork-is : (up : Up) (ref leaf d c : ℕ) → pointOf f words keys tag (rootWord words) ≡ point.Fork up ref leaf d c → forkChoice f words up ref leaf d c ≡ At site → Planned f words keys tag site
   unfolding forkChoice

@@ -55,9 +55,18 @@ module _ {A : Type 0} where
   shorten-inners t d c (inner-place k n) e = (λ m. leaf-inner m k n, tt)
 
 -- ── what the tree's writes make ──
--- with the leaf's cell written, τ is the store of the tree grown by some plan, and ref names its root; τ has the leaves of t
-pub record Planted (t : Tree Held) (tag : Tag) (n : ℕ) (τ : Store Held) (ref : ℕ) : Type 0 where
-  pub plan : Plan
+-- a record that takes a child stays, or moves; or a branching is made
+abbrev pub stayPlan : (leaf : ℕ) → Plan
+stayPlan n = record { leaf-number = n; fork-kind = 0; fork-number = 0; home = λ i j. (i, j) }
+
+abbrev pub movePlan : (leaf kind number : ℕ) → Plan
+movePlan n k m = record { leaf-number = n; fork-kind = 0; fork-number = 0; home = λ i j. (k, m) }
+
+abbrev pub forkPlan : (leaf kind number : ℕ) → Plan
+forkPlan n k m = record { leaf-number = n; fork-kind = k; fork-number = m; home = λ i j. (i, j) }
+
+-- with the leaf's cell written, τ is the store of the tree grown by the plan, and ref names its root; τ has the leaves of t
+pub record Planted (t : Tree Held) (tag : Tag) (n : ℕ) (plan : Plan) (τ : Store Held) (ref : ℕ) : Type 0 where
   pub number : plan .leaf-number ≡ n
   pub fresh : Fresh plan (store t [])
   pub makes : (a : Held) → write τ (leaf-place n) (leaf-cell tag a) ≡ store (grow t plan tag a) []
@@ -102,13 +111,12 @@ module _ (t : Tree Held) (good : Good t) (once : Once t []) (f : ℕ) (low : hei
 
     module _ (spare : σ (inner-place 0 0) ≡ unused) where
       -- in place
-      pub add-planted : (ref : ℕ) → ref ≡ refOf (root t) → Planted t tag n (write σ here added) ref
+      pub add-planted : (ref : ℕ) → ref ≡ refOf (root t) → Planted t tag n (stayPlan n) (write σ here added) ref
       add-planted ref e =
-          let pl : Plan = record { leaf-number = n; fork-kind = 0; fork-number = 0; home = λ i j. (i, j) } in
+          let pl : Plan = stayPlan n in
           let fresh : Fresh pl σ = (new, spare, λ i j. inl refl) in
           let same : apply σ (writes here) ≡ write σ here added = ap (apply (write (write σ here unused) here (add-cell x (leaf-place n) (σ here)))) (relink-up-none σ up here) ∙ write-write σ here unused (add-cell x (leaf-place n) (σ here)) ∙ ap (write σ here) added-is in
           record {
-            plan = pl;
             number = refl;
             fresh = fresh;
             makes = λ a. ap (λ (τ : Store Held). write τ (leaf-place n) (leaf-cell tag a)) (sym same) ∙ into-makes pl refl fresh a;
@@ -118,15 +126,14 @@ module _ (t : Tree Held) (good : Good t) (once : Once t []) (f : ℕ) (low : hei
 
       -- moved to y
       pub grow-planted : (i j : ℕ) → σ (inner-place i j) ≡ unused → (ref : ℕ) → ref ≡ refOf (root t)
-          → Planted t tag n (apply (write (write σ here unused) (inner-place i j) added) (up-edits σ up (inner-place i j))) (up-root up ref (refOf (inner-place i j)))
+          → Planted t tag n (movePlan n i j) (apply (write (write σ here unused) (inner-place i j) added) (up-edits σ up (inner-place i j))) (up-root up ref (refOf (inner-place i j)))
       grow-planted i j free ref e =
           let y : Place = inner-place i j in
-          let pl : Plan = record { leaf-number = n; fork-kind = 0; fork-number = 0; home = λ a b. (i, j) } in
+          let pl : Plan = movePlan n i j in
           let fresh : Fresh pl σ = (new, spare, λ a b. inr free) in
           let other : here ≢ y = λ q. used-not (σ here) (subst Used (sym (fits .record-at .shown)) tt) (ap σ q ∙ free) in
           let same : apply σ (writes y) ≡ apply (write (write σ here unused) y added) (up-edits σ up y) = ap₂ (λ (c : Cell Held) (es : Edits Held). apply (write (write σ here unused) y c) es) added-is (relink-is σ up here y other) in
           record {
-            plan = pl;
             number = refl;
             fresh = fresh;
             makes = λ a. ap (λ (τ : Store Held). write τ (leaf-place n) (leaf-cell tag a)) (sym same) ∙ into-makes pl refl fresh a;
@@ -148,15 +155,14 @@ module _ (t : Tree Held) (good : Good t) (once : Once t []) (f : ℕ) (low : hei
     rest-inners : Inners ((z, branch n) ∷ relink-up σ up y z)
     rest-inners = ((λ m. leaf-inner m i j), relink-inners σ up y z)
 
-    pub fork-planted : (ref : ℕ) → ref ≡ refOf (root t) → Planted t tag n (apply (write (apply σ short) z (branch n)) (up-edits σ up z)) (up-root up ref (refOf z))
+    pub fork-planted : (ref : ℕ) → ref ≡ refOf (root t) → Planted t tag n (forkPlan n i j) (apply (write (apply σ short) z (branch n)) (up-edits σ up z)) (up-root up ref (refOf z))
     fork-planted ref e =
-        let pl : Plan = record { leaf-number = n; fork-kind = i; fork-number = j; home = λ a b. (a, b) } in
+        let pl : Plan = forkPlan n i j in
         let fresh : Fresh pl σ = (new, free, λ a b. inl refl) in
         let τ : Store Held = apply σ short in
         let rest : Edits Held = (z, branch n) ∷ relink-up σ up y z in
         let same : apply τ rest ≡ apply (write τ z (branch n)) (up-edits σ up z) = ap (apply (write τ z (branch n))) (relink-is σ up y z other) in
         record {
-          plan = pl;
           number = refl;
           fresh = fresh;
           makes = λ a. ap (λ (ρ : Store Held). write ρ (leaf-place n) (leaf-cell tag a)) (sym same) ∙ sym (leaf-first τ rest rest-inners n (leaf-cell tag a))

@@ -90,7 +90,7 @@ module _ {f : Frame} {words keys : List ℕ} (tag : List ℕ) (tag-bytes : Bytes
       → SiteReady f words keys tag site (leaf-ref n)
   tree-ready {t} s st site (first e) = tt
   tree-ready {t} s st site (adds up ref byte u e room) = add-ready st tag up ref byte (into-fits s tag tag-bytes up ref byte e) room
-  tree-ready {t} s st site (grows up ref byte k m u e free) =
+  tree-ready {t} s st site (grows up ref byte k m u e full free) =
       grow-ready st tag up ref byte (into-fits s tag tag-bytes up ref byte e) (up-apart t (s .once)) (into-byte s tag tag-bytes up ref byte e) n pool k m (kind-free f words (suc (ref % 8)) k m free)
   tree-ready {t} s st site (forks up ref leaf d c k m u e free) =
       fork-ready st (up-apart t (s .once)) tag up ref leaf d c (fork-fits s tag tag-bytes up ref leaf d c e) (fork-run s tag tag-bytes up ref leaf d c e) (fork-there s tag tag-bytes up ref leaf d c e)
@@ -100,7 +100,7 @@ module _ {f : Frame} {words keys : List ℕ} (tag : List ℕ) (tag-bytes : Bytes
   bare-ready : Shown f words keys none → (site : Site) → Planned f words keys tag site → SiteReady f words keys tag site (leaf-ref n)
   bare-ready s site (first e) = tt
   bare-ready s site (adds up ref byte u e room) = absurd (u (s .rooted))
-  bare-ready s site (grows up ref byte k m u e free) = absurd (u (s .rooted))
+  bare-ready s site (grows up ref byte k m u e full free) = absurd (u (s .rooted))
   bare-ready s site (forks up ref leaf d c k m u e free) = absurd (u (s .rooted))
 
   site-ready : {links : Links} {root count : ℕ} (d : Option (Tree Held)) → Shown f words keys d → State f words keys (store-of d) links root count → (site : Site) → Planned f words keys tag site

@@ -40,14 +40,15 @@ use Rattle.insert.specs.declared.plan.Site.{Site}
 use Rattle.insert.specs.declared.plan.Plan.the-variants.{New}
 use Rattle.insert.specs.Plan.{planOf}
 use Rattle.insert.specs.Apply.{hung, newWords}
+use Rattle.insert.specs.Grown.{GrownFrom}
 use Rattle.insert.proofs.Plans.{Planned, first, adds, grows, forks, Newly, plan-new}
 use Rattle.insert.proofs.Gaps.{gap-next, gap-previous, next-used, previous-used}
 use Rattle.insert.proofs.Ready.{new-pool}
 use Rattle.insert.proofs.Hangs.{Hung, hung-tree}
 
--- the block has the frame, is sound, and holds what d held and the tag
+-- the block has the frame, is sound, holds what d held and the tag, and its tree is d grown
 abbrev NowHolds : Frame → (words keys : List ℕ) → Tag → Held → Option (Tree Held) → Type 0
-NowHolds f words keys tag a d = FrameOf f words keys × (s : Sound words keys) × (held (s .tree) ≡ put tag a (held d))
+NowHolds f words keys tag a d = FrameOf f words keys × (s : Sound words keys) × (held (s .tree) ≡ put tag a (held d)) × GrownFrom f d tag a (s .tree)
 
 module _ {f : Frame} {words keys tag : List ℕ} {site : Site} {n : ℕ} {gap : Gap} (total : ℕ) (short : length tag ≤ f .form .limit) (p : Newly f words keys tag site n gap) where
   abbrev a : Held
@@ -71,9 +72,9 @@ module _ {f : Frame} {words keys tag : List ℕ} {site : Site} {n : ℕ} {gap : 
   -- ── in a tree ──
   module _ {t : Tree Held} (s : Shown f words keys (some t)) (st : State f words keys (store t []) (linksOf f words) (rootWord words) (length (contents t))) (rooted : rootWord words ≡ refOf (root t)) where
     tree-linked : (w : List ℕ) (h : Hung f w keys t tag n (linksOf f words) (length (contents t)))
-        → Linked (link-in (linksOf f words) n (gap .previous) (gap .next)) 0 (leaves (grow t (h .planted .plan) tag a))
+        → Linked (link-in (linksOf f words) n (gap .previous) (gap .next)) 0 (leaves (grow t (h .plan) tag a))
     tree-linked w h =
-        let pl : Plan = h .planted .plan in
+        let pl : Plan = h .plan in
         let k : Links = linksOf f words in
         subst (λ (x : Links). Linked x 0 (leaves (grow t pl tag a)))
         (ap (λ (m : ℕ). link-in k m (before-ref k (ref-of numberOf (after tag (contents t)))) (ref-of numberOf (after tag (contents t)))) (h .planted .number)
@@ -82,12 +83,12 @@ module _ {f : Frame} {words keys tag : List ℕ} {site : Site} {n : ℕ} {gap : 
 
     tree-sound : Hung f (hung f keys tag site (leaf-ref n) words) keys t tag n (linksOf f words) (length (contents t)) → NowHolds f (newWords f keys tag total site n gap words) (keyIn f n tag keys) tag a (some t)
     tree-sound h =
-        let pl : Plan = h .planted .plan in
+        let pl : Plan = h .plan in
         let made = subst (λ (σ : Store Held). State f (newWords f keys tag total site n gap words) (keyIn f n tag keys) σ (link-in (linksOf f words) n (gap .previous) (gap .next)) (h .ref) (countWord words + 1))
         (h .planted .makes a) (new-state s st (h .cells) (h .ref) (h .state) (h .planted .kept)) in
         let done = state-sound (some (grow t pl tag a)) made (grow-good t (s .good) pl tag a) (once-grow t pl [] tag a (s .once) (h .planted .fresh)) (h .planted .moves a) (tree-linked _ h)
         (omega (arith, st .count-is, grow-count t (s .good) pl tag a (h .apart))) in
-        (made .frame, done .0, ap held (done .1) ∙ grow-contents t (s .good) pl tag a (h .apart))
+        (made .frame, done .0, ap held (done .1) ∙ grow-contents t (s .good) pl tag a (h .apart), record { plan = pl; fresh = h .planted .fresh; chosen = h .chosen; tree-is = done .1 })
 
   -- ── the first tag ──
   module _ (s : Shown f words keys none) (st : State f words keys (store-of none) (linksOf f words) (rootWord words) 0) where
@@ -95,7 +96,7 @@ module _ {f : Frame} {words keys tag : List ℕ} {site : Site} {n : ℕ} {gap : 
     unfolding hung
     first-hung x (first z) = state-root st (leaf-ref n)
     first-hung x (adds up ref byte u i room) = absurd (u (s .rooted))
-    first-hung x (grows up ref byte k m u i fr) = absurd (u (s .rooted))
+    first-hung x (grows up ref byte k m u i full fr) = absurd (u (s .rooted))
     first-hung x (forks up ref l d c k m u i fr) = absurd (u (s .rooted))
 
     first-linked : Linked (link-in (linksOf f words) n (gap .previous) (gap .next)) 0 (n ∷ [])
@@ -109,7 +110,7 @@ module _ {f : Frame} {words keys tag : List ℕ} {site : Site} {n : ℕ} {gap : 
     first-sound =
         let made = new-state s st (store-of none) (leaf-ref n) (first-hung site (p .planned)) (λ m. refl) in
         let done = state-sound (some (leaf n tag a)) made tt tt refl first-linked (omega (arith, st .count-is)) in
-        (made .frame, done .0, ap held (done .1))
+        (made .frame, done .0, ap held (done .1), done .1)
 
   -- ── either ──
   block-sound : Bytes tag → Bytes keys → (d : Option (Tree Held)) → Shown f words keys d → State f words keys (store-of d) (linksOf f words) (rootWord words) (length (held d)) → Rooted (rootWord words) d
@@ -131,3 +132,7 @@ module _ {words keys : List ℕ} (s : Sound words keys) (tag : List ℕ) (tag-by
   -- it is sound, and its list has the tag put in with its leaf's number and its total
   pub insert-sound : (s′ : Sound (newWords (frame words) keys tag total site n gap words) (keyIn (frame words) n tag keys)) × (held (s′ .tree) ≡ put tag (record { number = n; total = total }) (held (s .tree)))
   insert-sound = (made-sound .1, made-sound .2)
+
+  -- its tree is the one before, grown by a plan that takes the smallest kinds
+  pub insert-grown : (s′ : Sound (newWords (frame words) keys tag total site n gap words) (keyIn (frame words) n tag keys)) × GrownFrom (frame words) (s .tree) tag (record { number = n; total = total }) (s′ .tree)
+  insert-grown = (made-sound .1, made-sound .3)

@@ -4,3 +4,4 @@ pub mod Apply
 pub mod Insert
 pub mod Room
 pub mod Meets
+pub mod Grown
