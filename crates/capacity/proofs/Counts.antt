@@ -7,8 +7,9 @@ use mathlib.Core.Bool.{true}
 use native.Mathlib.Decide.{decLe}
 use native.Mathlib.Omega.{arith}
 use lib.ListN.{length, take, length-append}
+use lib.Dec.{leb, ltb}
 use borrow.Author.Tests.{le-leb, lt-ltb, ltb-true}
-use Rattle.lists.proofs.Tests.{and-both}
+use Rattle.lists.proofs.Tests.{both, and-both}
 use Rattle.frames.specs.Place.{inPool}
 use Rattle.frames.specs.declared.frame.Frame.{Frame}
 use Rattle.frames.proofs.Places.{inner-kind}
@@ -17,6 +18,7 @@ use Rattle.art.specs.Tags.{Tag, Listing}
 use Rattle.art.specs.Listings.{under}
 use Rattle.art.specs.Trees.{Tree, leaf, inner, Row, end, child, contents, row-contents, count, Good, GoodRow}
 use Rattle.art.specs.Stores.{Place, leaf-place, inner-place, place-dec, Cell, unused, leaf-cell, inner-cell, Store, empty, or-cell, write, refs, store, store-row, Used, Once, OnceRow}
+use Rattle.art.specs.Refs.{Refs}
 use Rattle.art.specs.Chain.{Links}
 use Rattle.art.specs.Visit.{spots, row-spots}
 use Rattle.art.specs.Members.{In}
@@ -27,10 +29,14 @@ use Rattle.art.proofs.Stores.{leaf-inner}
 use Rattle.view.specs.Cells.{numberAt}
 use Rattle.states.specs.State.{State}
 use Rattle.states.proofs.Steps.{state-pool}
-use Rattle.insert.specs.Room.{LeavesFull, InnersFull}
+use Rattle.insert.specs.Room.{LeavesFull}
 use Rattle.demands.proofs.Sums.{sum, heft, row-heft, sum-off, sum-empty, sum-join, sum-on, heft-four}
 use Rattle.demands.proofs.Inner.{one}
 use Rattle.capacity.specs.Capacity.{cap, Over}
+
+-- every record of this kind is in use
+abbrev pub PoolFull : Frame → Store Held → ℕ → Type 0
+PoolFull f σ k = (n : ℕ) → inPool f (inner-place k n) ≡ true → Used (σ (inner-place k n))
 
 -- ── sums, and what bounds them ──
 module _ (w : Cell Held → ℕ) (σ : Store Held) (at : ℕ → Place) where
@@ -168,6 +174,13 @@ module _ {f : Frame} {words keys : List ℕ} {links : Links} {root size : ℕ} (
   extras-are = omega (arith, heft-four extra refl f (inner-kind (s .frame)) t [] once pool, extra-tags t good)
 
   -- a full pool whose records have over m children each
-  pub full-pool : (m kind k : ℕ) → InnersFull f σ kind → kind ≤ k → k ≤ 4 → ((n : ℕ) → Over m (σ (inner-place k n))) → m * cap f k ≤ extras k
-  full-pool m kind k full low high over =
-      sum-least extra σ (inner-place k) m (cap f k) (λ n l. extra-over m (σ (inner-place k n)) (full k n low (and-both (le-leb k 4 high) (lt-ltb n (cap f k) l))) (over n))
+  pub full-pool : (m k : ℕ) → k ≤ 4 → PoolFull f σ k → ((n : ℕ) → Over m (σ (inner-place k n))) → m * cap f k ≤ extras k
+  full-pool m k high full over = sum-least extra σ (inner-place k) m (cap f k) (λ n l. extra-over m (σ (inner-place k n)) (full n (and-both (le-leb k 4 high) (lt-ltb n (cap f k) l))) (over n))
+
+  -- one record of a pool
+  pub one-record : (k n len : ℕ) (st : List ℕ) (rs : Refs) → σ (inner-place k n) ≡ inner-cell len st rs → (1 ≤ k) × (k ≤ 4) × (length rs ≤ extras k + 1)
+  one-record k n len st rs e =
+      let inside = state-pool s (inner-place k n) (subst Used (sym e) tt) in
+      let kind = inner-kind (s .frame) k n inside in
+      let few = sum-one extra σ (inner-place k) n (cap f k) (ltb-true n (cap f k) (both (leb k 4) (ltb n (cap f k)) inside .1)) in
+      (kind .0, kind .1, omega (arith, few, ap extra e))

@@ -1,5 +1,4 @@
--- Capacities that suffice, on a block with a record of kind 4 alone: A is held, and B can't lack an inner record, since c5 - 1 is c4.
-use Prim.Native.Nat.{ℕ, _+_}
+-- Capacities that suffice: on a block with a record of kind 4 alone, and after calls from a start with capacities for five tags.
 use mathlib.Core.Path.{_≡_, refl}
 use mathlib.Core.Logic.{_≢_}
 use mathlib.Core.List.{List, [], _∷_, _++_}
@@ -7,20 +6,27 @@ use mathlib.Core.Option.{some}
 use native.Mathlib.Omega.{arith}
 use lib.ListN.{replicate}
 use Rattle.frames.specs.Frame.{frame}
+use Rattle.frames.specs.declared.frame.Caps.{Caps}
 use Rattle.art.specs.Points.{store-of}
+use Rattle.pools.specs.Start.{startOf}
+use Rattle.pools.specs.declared.start.Started.the-variants.{Done}
+use Rattle.reading.specs.Answers.{Bytes}
 use Rattle.whole.specs.Sound.{Sound}
 use Rattle.whole.proofs.Sounds.{whole-sound}
 use Rattle.pointed.proofs.Points.{tag-bytes}
 use Rattle.insert.specs.Room.{LeavesFull, Lacking}
-use Rattle.demands.specs.Calls.{insert, numberOf, run}
-use Rattle.demands.specs.Histories.{Block}
-use Rattle.capacity.specs.Capacity.{Large}
-use Rattle.capacity.proofs.Rooms.{never-lacks}
+use Rattle.demands.specs.Calls.{Call, start, insert, delete, numberOf, run}
+use Rattle.demands.specs.Histories.{Block, Turn, answered, next, after-all, AllBytes}
+use Rattle.demands.proofs.Histories.{history}
+use Rattle.capacity.specs.Capacity.{Large, AmpleCaps, AmpleFrame, AmpleStarts, Tight}
+use Rattle.capacity.proofs.Rooms.{never-lacks, tight-never-lacks}
 use Rattle.capacity.proofs.Numbers.{large-never-five}
+use Rattle.capacity.proofs.Histories.{usual-ample, ample-frame, ample-tight, ample-never-five}
 use Rattle.instances.specs.Opened.{opened}
-use Rattle.instances.specs.Blocks.{leaf-at, key, no-key, block, lend, A, B}
+use Rattle.instances.specs.Blocks.{leaf-at, key, no-key, block, lend, A, B, C, D, E}
 
--- a record of kind 4, and two leaves: A, 7
+-- ── a record of kind 4, and two leaves ──
+-- A, 7 is held, and B can't lack a record, since c5 - 1 is c4
 abbrev four : Block
 four = block (replicate 267 0 ++ leaf-at 0 0 7 ++ replicate 6 0 ++ 1 ∷ 279 ∷ 279 ∷ 279 ∷ 279 ∷ 12 ∷ 0 ∷ 0 ∷ 0 ∷ 1 ∷ 2 ∷ 5 ∷ 5 ∷ 5 ∷ 1 ∷ 295 ∷ []) (key 65 ++ no-key)
 
@@ -37,3 +43,53 @@ has-room = never-lacks four-sound B (tag-bytes B refl) four-large
 
 not-five : numberOf (run (insert B 8) (lend four 3) .answer) ≢ some 5
 not-five = large-never-five (lend four 3) B 8 (tag-bytes B refl) four-large
+
+-- ── capacities for five tags ──
+abbrev five : Caps
+five = record { c1 = 5; c2 = 1; c3 = 0; c4 = 0; c5 = 5 }
+
+enough : AmpleCaps five
+enough = usual-ample 5
+
+-- memory that was used before
+abbrev before : Block
+before = record { words = replicate 184 3; keys = replicate 320 9 }
+
+accepted : startOf (before .words) (before .keys) five .answer ≡ Done
+unfolding opened
+accepted = refl
+
+abbrev call : Call → Turn
+call c = record { call = c; scratch = replicate 11 1 }
+
+-- started anew after a first tag; then the record of kind 1 grows with E, and shrinks when A is gone
+abbrev calls : List Turn
+calls = call (insert E 9) ∷ call (start five) ∷ call (insert A 1) ∷ call (insert B 2) ∷ call (insert C 3) ∷ call (insert D 4) ∷ call (insert E 5) ∷ call (delete A) ∷ []
+
+bytes : AllBytes calls
+bytes =
+    let a : Bytes A = tag-bytes A refl in
+    let e : Bytes E = tag-bytes E refl in
+    (e, (tt, (a, (tag-bytes B refl, (tag-bytes C refl, (tag-bytes D refl, (e, (a, tt))))))))
+
+-- the second start has enough too
+starts : AmpleStarts (next before (call (start five))) calls
+starts = (tt, ((λ done. enough), (tt, (tt, (tt, (tt, (tt, (tt, tt))))))))
+
+abbrev last : Block
+last = after-all (next before (call (start five))) calls
+
+A-again : numberOf (answered last (call (insert A 6))) ≢ some 5
+A-again = ample-never-five before five (replicate 11 1) accepted enough calls bytes starts A 6 (replicate 11 1) (tag-bytes A refl)
+
+smallest-kinds : Tight (frame (last .words)) (last .words) (last .keys)
+smallest-kinds = ample-tight before five (replicate 11 1) accepted enough calls bytes starts
+
+still-enough : AmpleFrame (frame (last .words))
+still-enough = ample-frame before five (replicate 11 1) accepted enough calls bytes starts
+
+last-sound : Sound (last .words) (last .keys)
+last-sound = history before five (replicate 11 1) accepted calls bytes .sound
+
+A-has-room : ¬ LeavesFull (frame (last .words)) (store-of (last-sound .tree)) → ¬ Lacking (frame (last .words)) (last-sound .tree) A
+A-has-room = tight-never-lacks last-sound A (tag-bytes A refl) smallest-kinds still-enough

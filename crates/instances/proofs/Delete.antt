@@ -11,6 +11,7 @@ use Rattle.art.specs.Listings.{lookup}
 use Rattle.art.specs.Puts.{leave}
 use Rattle.art.specs.Deletes.{held}
 use Rattle.frames.specs.Frame.{frame}
+use Rattle.whole.specs.Sound.{Sound}
 use Rattle.whole.proofs.Samples.{two-words, two-keys, two-sound}
 use Rattle.points.specs.declared.insert_point.Up.the-variants.{Top}
 use Rattle.delete.specs.Plan.{planOf}
@@ -20,8 +21,9 @@ use Rattle.delete.specs.declared.plan.Cut.the-variants.{Root, Stay, Shrink, Mer
 use Rattle.delete.specs.declared.plan.Plan.the-variants.{Missing, Broken}
 use Rattle.delete.specs.declared.answer.Deleted.the-variants as deleted
 use Rattle.delete.proofs.Ready.{delete-ready}
-use Rattle.delete.proofs.Sounds.{delete-sound}
+use Rattle.delete.proofs.Sounds.{delete-sound, delete-without}
 use Rattle.delete.specs.Meets.{Deletes}
+use Rattle.delete.specs.Without.{WithoutFrom}
 use Rattle.delete.proofs.Answers.{never-broken, missing-held, held-missing, call-answers}
 use Rattle.instances.specs.Opened.{opened}
 use Rattle.instances.specs.Blocks.{bare, spare, two, room, three, full, wide, long, parted, A, B, C, D, E, J1, J2, AX, entry, Holds, gap}
@@ -60,6 +62,11 @@ unfolding opened
 shrink-out =
     let z = delete-sound wide-sound E refl (Shrink Top 2 1 69) 4 (gap 29 0) refl in
     (z .0, z .1 ∙ ap (leave E) wide-holds)
+
+-- the tree is the one before without the tag, and the record came to its mark
+shrink-tree : (s : Sound (full .words) (full .keys)) × WithoutFrom (frame (wide .words)) (wide-sound .tree) E (s .tree)
+unfolding opened
+shrink-tree = delete-without wide-sound E refl (Shrink Top 2 1 69) 4 (gap 29 0) refl
 
 -- the one child left stands in its place
 merge-ready : TakeReady (frame (two .words)) (two .words) (Merge Top 1 5 65) 1 (gap 5 0)

@@ -28,9 +28,10 @@ use Rattle.insert.specs.declared.answer.Inserted.the-variants as inserted
 use Rattle.insert.specs.Insert.{out}
 use Rattle.insert.specs.Room.{LeavesFull, Lacking, Answers}
 use Rattle.insert.specs.Meets.{newTotal, Meets}
+use Rattle.insert.specs.Grown.{GrownFrom, AlteredFrom}
 use Rattle.insert.proofs.Ready.{insert-ready}
-use Rattle.insert.proofs.Sounds.{insert-sound}
-use Rattle.insert.proofs.Overs.{over-sound}
+use Rattle.insert.proofs.Sounds.{insert-sound, insert-grown}
+use Rattle.insert.proofs.Overs.{over-sound, over-altered}
 use Rattle.insert.proofs.Refusals.{plan-answers, only-over, only-clash, only-full, only-lacking, only-new}
 use Rattle.insert.proofs.Inserts.{insert-meets}
 use Rattle.instances.specs.Opened.{opened}
@@ -72,6 +73,11 @@ grow-put =
     let z = insert-sound full-sound E (tag-bytes E refl) (tag-bytes (full .keys) refl) (omega arith) (Grow Top 1 2 69) 4 (gap 29 0) 5 refl in
     (z .0, z .1 ∙ ap (put E (holding 4 5)) full-holds)
 
+-- the tree is the one before, grown: the record was full, and kind 2 is the smallest larger one
+grow-tree : (s : Sound (wide .words) (wide .keys)) × GrownFrom (frame (full .words)) (full-sound .tree) E (holding 4 5) (s .tree)
+unfolding opened
+grow-tree = insert-grown full-sound E (tag-bytes E refl) (tag-bytes (full .keys) refl) (omega arith) (Grow Top 1 2 69) 4 (gap 29 0) 5 refl
+
 -- a branching against a leaf
 fork-ready : NewReady (frame (spare .words)) (spare .words) (spare .keys) B (Fork Top 5 1 5 0 0) 1 (gap 5 0)
 unfolding opened
@@ -100,6 +106,10 @@ unfolding opened
 over-put =
     let z = over-sound two-sound A (tag-bytes A refl) 5 refl 5 in
     (z .0, z .1 ∙ ap (alter (λ h. some (newTotal 5 h)) A) two-holds)
+
+over-tree : (s : Sound (totalAt (frame two-words) 0 5 two-words) two-keys) × AlteredFrom (two-sound .tree) A 5 (s .tree)
+unfolding opened
+over-tree = over-altered two-sound A (tag-bytes A refl) 5 refl 5
 
 -- ── which plan is due, by the verdict and the room ──
 -- on a sound block, with any tag
