@@ -28,7 +28,7 @@ use Rattle.art.proofs.Passes.{store-on}
 use Rattle.art.proofs.Stores.{leaf-inner}
 use Rattle.view.specs.Cells.{numberAt}
 use Rattle.states.specs.State.{State}
-use Rattle.states.proofs.Steps.{state-pool}
+use Rattle.states.proofs.OneCell.{used-pool}
 use Rattle.insert.specs.Room.{LeavesFull}
 use Rattle.demands.proofs.Sums.{sum, heft, row-heft, sum-off, sum-empty, sum-join, sum-on, heft-four}
 use Rattle.demands.proofs.Inner.{one}
@@ -149,7 +149,7 @@ module _ {f : Frame} {words keys : List ℕ} {links : Links} {root size : ℕ} (
   tags = length (contents t)
 
   pool : (x : Place) → In x (spots t) → inPool f x ≡ true
-  pool x i = state-pool s x (store-on t [] x i)
+  pool x i = used-pool s x (store-on t [] x i)
 
   -- its leaves are its tags
   used-leaves : sum one σ leaf-place (cap f 5) ≡ tags
@@ -180,7 +180,7 @@ module _ {f : Frame} {words keys : List ℕ} {links : Links} {root size : ℕ} (
   -- one record of a pool
   pub one-record : (k n len : ℕ) (st : List ℕ) (rs : Refs) → σ (inner-place k n) ≡ inner-cell len st rs → (1 ≤ k) × (k ≤ 4) × (length rs ≤ extras k + 1)
   one-record k n len st rs e =
-      let inside = state-pool s (inner-place k n) (subst Used (sym e) tt) in
+      let inside = used-pool s (inner-place k n) (subst Used (sym e) tt) in
       let kind = inner-kind (s .frame) k n inside in
       let few = sum-one extra σ (inner-place k) n (cap f k) (ltb-true n (cap f k) (both (leb k 4) (ltb n (cap f k)) inside .1)) in
       (kind .0, kind .1, omega (arith, few, ap extra e))

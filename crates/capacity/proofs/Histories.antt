@@ -34,7 +34,8 @@ use Rattle.demands.specs.Calls.{Call, start, search, prefix-search, minimum, ma
 use Rattle.demands.specs.Histories.{Block, Turn, lent, answered, next, after-all, CallBytes, AllBytes}
 use Rattle.demands.specs.Frames.{NoStart}
 use Rattle.demands.proofs.Cases.{insert-cases, delete-cases}
-use Rattle.demands.proofs.Frames.{frame-limit, frame-kept}
+use Rattle.demands.proofs.Changes.{frame-limit}
+use Rattle.demands.proofs.Frames.{frame-kept}
 use Rattle.demands.proofs.KeyBytes.{start-bytes, step-bytes}
 use Rattle.capacity.specs.Capacity.{Ample, AmpleFrame, AmpleCaps, AmpleCall, AmpleStarts, Over, Tight}
 use Rattle.capacity.proofs.Rooms.{tight-block, tight-never-lacks}

@@ -33,7 +33,7 @@ use Rattle.reading.specs.Answers.{Bytes}
 use Rattle.whole.specs.Sound.{Sound}
 use Rattle.states.specs.State.{State}
 use Rattle.states.proofs.Standing.{stands}
-use Rattle.states.proofs.Steps.{state-pool}
+use Rattle.states.proofs.OneCell.{used-pool}
 use Rattle.states.proofs.Sounds.{sound-state}
 use Rattle.insert.specs.Room.{LeavesFull, InnersFull, Lacks, Lacking}
 use Rattle.capacity.specs.Capacity.{cap, Large, AmpleFrame, Over, Tight}
@@ -90,7 +90,7 @@ module _ {f : Frame} {words keys : List ℕ} {links : Links} {rootRef size : ℕ
       shown = p .record-at .shown
 
       kind : (1 ≤ k) × (k ≤ 4)
-      kind = inner-kind (s .frame) k n (state-pool s (inner-place k n) (subst Used (sym shown) tt))
+      kind = inner-kind (s .frame) k n (used-pool s (inner-place k n) (subst Used (sym shown) tt))
 
       full : childrenOf k ≤ length (p .rs)
       full = subst (λ (c : Cell Held). childrenOf k ≤ length (cell-refs c)) shown (l .0)

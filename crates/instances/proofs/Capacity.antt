@@ -15,7 +15,7 @@ use Rattle.whole.specs.Sound.{Sound}
 use Rattle.whole.proofs.Sounds.{whole-sound}
 use Rattle.pointed.proofs.Points.{tag-bytes}
 use Rattle.insert.specs.Room.{LeavesFull, Lacking}
-use Rattle.demands.specs.Calls.{Call, start, insert, delete, numberOf, run}
+use Rattle.demands.specs.Calls.{Call, start, insert, delete, numberOf, number}
 use Rattle.demands.specs.Histories.{Block, Turn, answered, next, after-all, AllBytes}
 use Rattle.demands.proofs.Histories.{history}
 use Rattle.capacity.specs.Capacity.{Large, AmpleCaps, AmpleFrame, AmpleStarts, Tight}
@@ -41,7 +41,7 @@ four-large = omega arith
 has-room : ¬ LeavesFull (frame (four .words)) (store-of (four-sound .tree)) → ¬ Lacking (frame (four .words)) (four-sound .tree) B
 has-room = never-lacks four-sound B (tag-bytes B refl) four-large
 
-not-five : numberOf (run (insert B 8) (lend four 3) .answer) ≢ some 5
+not-five : number (insert B 8) (lend four 3) ≢ some 5
 not-five = large-never-five (lend four 3) B 8 (tag-bytes B refl) four-large
 
 -- ── capacities for five tags ──
