@@ -9,7 +9,6 @@ pub mod Ready
 pub mod Outs
 pub mod Sounds
 pub mod Answers
-pub mod Refusals
 pub mod Planning
 pub mod Joins
 pub mod Calls

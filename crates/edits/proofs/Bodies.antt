@@ -1,7 +1,7 @@
 -- Every kind: a body that holds a row holds the changed row after a change; its spread is the table of its row; and a row that climbs has
 -- a body that holds it.
 use Prim.Native.Nat.{ℕ, _+_, _-_, _≤_, _<_}
-use mathlib.Core.Path.{_≡_, refl, sym, ap, subst, _∙_}
+use mathlib.Core.Path.{_≡_, refl, sym, ap, _∙_}
 use mathlib.Core.List.{List}
 use mathlib.Core.Bool.{Bool}
 use native.Mathlib.Omega.{arith}
@@ -15,7 +15,7 @@ use Rattle.frames.specs.Kind.{kindRow, childrenOf}
 use Rattle.records.specs.Own.{sortedChild, indirectChild, childOf}
 use Rattle.records.specs.Row.{sortedRow, directRow, refFor, Climbs}
 use Rattle.records.proofs.Rows.{spread-length}
-use Rattle.records.proofs.RowRules.{filled-climbs, filled-length}
+use Rattle.records.proofs.RowRules.{filled-length}
 use Rattle.edits.specs.Body.{sortedAdd, sortedRemove, sortedReplace, slotAdd, slotRemove, slotReplace, bodyAdd, bodyRemove, bodyReplace, rowSpread, sortedSpread, slotSpread, bodySpread, sortedBody, slotBody, bodyOf}
 use Rattle.edits.specs.Rows.{Row, rowInsert, rowRemove, rowReplace}
 use Rattle.edits.proofs.Columns.{tab-length}
@@ -121,11 +121,3 @@ holds-built kind row low high few c =
     (λ l. indirect-built row l c)
     (λ l. direct-built row c)
     kind low high few)
-
--- the body built from a table
-pub holds-table : (kind : ℕ) (places : List ℕ) (n : ℕ) → 1 ≤ kind → kind ≤ 4 → length places ≡ 256 → count nonzero places ≡ n → n ≤ childrenOf kind
-    → Holds kind (bodyOf kind (directRow places)) n (directRow places)
-holds-table kind places n low high long many few =
-    let s : length (directRow places) ≡ n = filled-length 0 places ∙ many in
-    subst (λ (m : ℕ). Holds kind (bodyOf kind (directRow places)) m (directRow places)) s
-    (holds-built kind (directRow places) low high (omega arith) (filled-climbs 0 places (omega arith)))

@@ -1,6 +1,6 @@
 -- A body that obeys its kind's rule and has this row: what every law of bodies is about, for one layout and for every kind.
 use Prim.Native.Nat.{ℕ, zero, suc, _+_, _≤_, _<_}
-use mathlib.Core.Path.{_≡_, refl, sym, ap, subst, _∙_}
+use mathlib.Core.Path.{_≡_, sym, ap, subst, _∙_}
 use mathlib.Core.List.{List}
 use mathlib.Core.Bool.{Bool, true, false}
 use native.Mathlib.Omega.{arith}
@@ -50,10 +50,6 @@ by-layout P s i d (suc (suc (suc (suc (suc k))))) l h = absurd (omega arith)
 pub record Holds (kind : ℕ) (body : List ℕ) (n : ℕ) (row : Row) : Type 0 where
   pub fits : BodyFits kind body n
   pub shows : bodyRow kind body n ≡ row
-
--- one that obeys its rule has its own row
-pub holds-own : {kind : ℕ} {body : List ℕ} {n : ℕ} → BodyFits kind body n → Holds kind body n (bodyRow kind body n)
-holds-own w = record { fits = w; shows = refl }
 
 pub holds-laid : (kind : ℕ) (body : List ℕ) (n : ℕ) (row : Row) → 1 ≤ kind → kind ≤ 4 → n ≤ childrenOf kind
     → Laid (leb kind 2) (eqb kind 3) (bodyWords kind) (childrenOf kind) body n row → Holds kind body n row

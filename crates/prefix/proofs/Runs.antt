@@ -2,19 +2,16 @@
 use Prim.Native.Nat.{ℕ, _+_, _-_, _≤_, _<_}
 use mathlib.Core.Path.{_≡_, refl, sym, ap, _∙_}
 use mathlib.Core.List.{List, [], _∷_, _++_, append-nil}
-use mathlib.Core.Bool.{Bool, true, false}
 use native.Mathlib.Omega.{arith}
 use native.Mathlib.Decide.{decLt}
 use borrow.Author.Tests.{le-leb, lt-leb}
 use lib.ListN.{length, take, drop, length-append, length-take, length-drop}
 use lib.Seq.{take-all, append-snoc, drop-drop}
-use lib.Dec.{leb}
-use Rattle.lists.specs.Scan.{choose, all, atMost}
 use Rattle.lists.specs.Part.{between}
 use Rattle.lists.proofs.Parts.{between-drop}
 use Rattle.prefix.specs.Run.{capped, eight, ofLength, held, prefixOf, ltrimOf, splitOf, pushOf, mergeOf}
 use Rattle.prefix.specs.declared.Prefix.{Prefix}
-use Rattle.prefix.proofs.Eights.{eight-length, eight-held, eight-cut, eight-own}
+use Rattle.prefix.proofs.Eights.{eight-length, eight-held, eight-cut}
 
 -- a prefix by its full length and its eight stored numbers
 abbrev pub prefix : ℕ → List ℕ → Prefix
@@ -126,21 +123,6 @@ pub run-length : (run : List ℕ) → length ((prefixOf run) .stored) ≡ 8
 unfolding prefixOf
 run-length run = eight-length run
 
-pub split-length : (p : Prefix) (n : ℕ) (leaf : List ℕ) (depth : ℕ) → length ((splitOf p n leaf depth) .stored) ≡ 8
-unfolding splitOf ltrimOf
-split-length p n leaf depth = go (leb (p .full .0) 8)
-  where
-    go : (t : Bool) → length ((choose t (ltrimOf p n) (prefixOf (between leaf (depth + n) (depth + p .full .0)))) .stored) ≡ 8
-    go true = eight-length (drop n (held p))
-    go false = run-length (between leaf (depth + n) (depth + p .full .0))
-
 pub merge-length : (parent : Prefix) (b : ℕ) (child : Prefix) → length ((mergeOf parent b child) .stored) ≡ 8
 unfolding mergeOf
 merge-length parent b child = eight-length (held parent ++ b ∷ held child)
-
--- a prefix that is stored whole, with 0 after it, is that of the run that it holds
-pub own-run : (p : Prefix) → p .full .0 ≤ 8 → length (p .stored) ≡ 8 → all (atMost 0) (drop (capped (p .full .0)) (p .stored)) ≡ true → p ≡ prefixOf (held p)
-unfolding prefixOf
-own-run p h long e =
-    ap (prefix (p .full .0)) (sym (eight-own (p .stored) (capped (p .full .0)) long e))
-    ∙ ap (λ (n : ℕ). ofLength n (held p)) (let q : p .full .0 ≡ length (held p) = omega (arith, length-take (capped (p .full .0)) (p .stored)) in q)

@@ -1,11 +1,10 @@
 -- The key bytes of one leaf written, alone and with the leaf's record.
 use Prim.Native.Nat.{ℕ, _+_, _-_, _*_, _≤_}
-use mathlib.Core.Path.{_≡_, refl, ap, ap₂, sym, _∙_}
+use mathlib.Core.Path.{_≡_, refl, ap, ap₂, _∙_}
 use mathlib.Core.Logic.{_⊎_, inl, inr, _≢_}
 use mathlib.Core.List.{List}
 use mathlib.Core.Bool.{true}
 use native.Mathlib.Omega.{arith}
-use native.Mathlib.Decide.{ℕ-discrete}
 use lib.ListN.{length}
 use Rattle.lists.proofs.Parts.{splice-length, splice-same, splice-before, splice-after}
 use Rattle.frames.specs.Frame.{FrameOf}
@@ -14,9 +13,9 @@ use Rattle.records.specs.View.{leafCell, cellOf, keyFor}
 use Rattle.frames.specs.declared.frame.Frame.{Frame}
 use Rattle.frames.proofs.Places.{leaf-room}
 use Rattle.art.specs.Stores.{Place, leaf-place, inner-place, write}
-use Rattle.view.specs.Cells.{wordZero, Same}
+use Rattle.view.specs.Cells.{Same}
 use Rattle.view.proofs.Apart.{keys-apart}
-use Rattle.view.proofs.Views.{cell-free, same-at, same-view, one-cell}
+use Rattle.view.proofs.Views.{same-at, one-cell}
 use Rattle.view.proofs.Puts.{frame-stays, put-same, put-other, put-fits}
 
 module _ {f : Frame} {words keys : List ℕ} (w : FrameOf f words keys) (n : ℕ) (key : List ℕ) (hn : inPool f (leaf-place n) ≡ true) (fit : length key ≡ f .form .limit) where
@@ -54,24 +53,6 @@ module _ {f : Frame} {words keys : List ℕ} (w : FrameOf f words keys) (n : ℕ
 
   pub key-fits : FrameOf f words (putKey f keys n key)
   key-fits = frame-stays w words (putKey f keys n key) refl key-length refl
-
-  pub key-keeps : (x : Place) → x ≢ leaf-place n → Same f words keys words (putKey f keys n key) x
-  key-keeps x ne = same-at f words keys words (putKey f keys n key) x refl (key-apart x ne)
-
-  -- while the leaf is free, the view does not show its key bytes
-  pub key-view : wordZero f words (leaf-place n) ≡ 0 → cellOf f words (putKey f keys n key) ≡ cellOf f words keys
-  key-view e = same-view f words keys words (putKey f keys n key) (λ x hx. go x)
-    where
-      here : cellOf f words (putKey f keys n key) (leaf-place n) ≡ cellOf f words keys (leaf-place n)
-      here = cell-free f words (putKey f keys n key) (leaf-place n) e ∙ sym (cell-free f words keys (leaf-place n) e)
-
-      at : (m : ℕ) → Dec (m ≡ n) → cellOf f words (putKey f keys n key) (leaf-place m) ≡ cellOf f words keys (leaf-place m)
-      at m (yes p) = ap (λ (j : ℕ). cellOf f words (putKey f keys n key) (leaf-place j)) p ∙ here ∙ ap (λ (j : ℕ). cellOf f words keys (leaf-place j)) (sym p)
-      at m (no ne) = key-keeps (leaf-place m) (λ q. ne (cc)) .cell
-
-      go : (x : Place) → cellOf f words (putKey f keys n key) x ≡ cellOf f words keys x
-      go (leaf-place m) = at m (ℕ-discrete m n)
-      go (inner-place k m) = key-keeps (inner-place k m) (λ q. absurd (let z : _≡_ {A = ℕ} 0 1 = cc in omega arith)) .cell
 
   -- ── with the leaf's record ──
   module _ (rec : List ℕ) (long : length rec ≡ 6) where

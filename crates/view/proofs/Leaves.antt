@@ -10,20 +10,18 @@ use lib.Dec.{eqb, leb}
 use borrow.Author.Tests.{le-leb, ne-eqb}
 use Rattle.lists.specs.Scan.{choose, all, atMost}
 use Rattle.lists.specs.Part.{between}
-use Rattle.lists.proofs.Tests.{and-both, all-take, zeros-all, zeros-at}
-use Rattle.frames.specs.Form.{recordWords}
+use Rattle.lists.proofs.Tests.{and-both, all-take, zeros-all}
 use Rattle.frames.specs.Frame.{FrameOf}
 use Rattle.records.specs.Own.{leafOk, totalOf}
-use Rattle.frames.specs.Place.{inPool, sizeAt, recordAt, keyAt, putAt, putKey}
-use Rattle.records.specs.View.{Held, leafCell, cellOf, ruleAt, blankAt, keyFor}
+use Rattle.frames.specs.Place.{inPool, recordAt, keyAt, putAt, putKey}
+use Rattle.records.specs.View.{Held, leafCell, cellOf, ruleAt}
 use Rattle.frames.specs.declared.frame.Frame.{Frame}
 use Rattle.frames.proofs.Places.{record-length}
-use Rattle.art.specs.Stores.{Place, leaf-place, inner-place, unused, leaf-cell, write}
+use Rattle.art.specs.Stores.{leaf-place, unused, leaf-cell, write}
 use Rattle.lists.specs.Edit.{padded}
 use Rattle.pools.specs.Leaf.{leafWords, setTotal}
-use Rattle.view.proofs.Views.{free-cell}
 use Rattle.view.proofs.Puts.{put-same, put-cell}
-use Rattle.view.proofs.Keys.{key-same, leaf-view}
+use Rattle.view.proofs.Keys.{leaf-view}
 use Rattle.view.proofs.Seen.{seen-leaf}
 
 -- ── words and key bytes by themselves ──
@@ -70,24 +68,10 @@ module _ {f : Frame} {words keys : List ℕ} (w : FrameOf f words keys) (n : ℕ
         leaf-view w n (padded (f .form .limit) tag) hn (bytes-long (f .form .limit) tag short) (leafWords (length tag) p q total) (words-long (length tag) p q total)
         ∙ ap (write (cellOf f words keys) (leaf-place n)) (words-cell (f .form .limit) tag short p q total n)
 
-    pub write-rule : ruleAt f (putAt f words (leaf-place n) (leafWords (length tag) p q total)) (putKey f keys n (padded (f .form .limit) tag)) (leaf-place n) ≡ true
-    write-rule =
-        ap₂ (λ (r k : List ℕ). leafOk (f .form .limit) r k)
-        (put-same w (leaf-place n) (leafWords (length tag) p q total) hn (words-long (length tag) p q total))
-        (key-same w n (padded (f .form .limit) tag) hn (bytes-long (f .form .limit) tag short))
-        ∙ words-rule (f .form .limit) tag short p q total
-
   -- ── a leaf cleared ──
   pub clear-leaf : cellOf f (putAt f words (leaf-place n) (replicate 6 0)) (putKey f keys n (replicate (f .form .limit) 0))
       ≡ write (cellOf f words keys) (leaf-place n) unused
   clear-leaf = leaf-view w n (replicate (f .form .limit) 0) hn (length-replicate (f .form .limit) 0) (replicate 6 0) refl
-
-  pub clear-leaf-blank : blankAt f (putAt f words (leaf-place n) (replicate 6 0)) (putKey f keys n (replicate (f .form .limit) 0)) (leaf-place n) ≡ true
-  clear-leaf-blank =
-      ap₂ (λ (r k : List ℕ). all (atMost 0) r && all (atMost 0) k)
-      (put-same w (leaf-place n) (replicate 6 0) hn refl)
-      (key-same w n (replicate (f .form .limit) 0) hn (length-replicate (f .form .limit) 0))
-      ∙ zeros-all (f .form .limit) 0
 
   -- ── another total ──
   module _ (total : ℕ) where
@@ -140,16 +124,3 @@ module _ {f : Frame} {words keys : List ℕ} (w : FrameOf f words keys) (n : ℕ
             (ne-eqb (getD (setTotal total (recordAt f words (leaf-place n))) 0 0) 0 (λ e. s .used (sym (total-front 0 (omega arith)) ∙ e)))
             ∙ ap₂ (λ (l : ℕ) (v : ℕ). leaf-cell (take l (keyAt f keys n)) (held v)) (total-front 1 (omega arith)) total-is
             ∙ ap (λ (t : List ℕ). leaf-cell t (held total)) (sym (s .tag-is))
-
--- ── any record cleared ──
-module _ {f : Frame} {words keys : List ℕ} (w : FrameOf f words keys) (x : Place) (hx : inPool f x ≡ true) where
-  pub clear-cell : cellOf f (putAt f words x (replicate (sizeAt f x) 0)) keys ≡ write (cellOf f words keys) x unused
-  clear-cell =
-      put-cell w x (replicate (sizeAt f x) 0) hx (length-replicate (sizeAt f x) 0)
-      ∙ ap (write (cellOf f words keys) x) (free-cell f x (replicate (sizeAt f x) 0) (keyFor f keys x) (zeros-at (sizeAt f x) 0))
-
-pub clear-blank : {f : Frame} {words keys : List ℕ} → FrameOf f words keys → (k n : ℕ) → inPool f (inner-place k n) ≡ true
-    → blankAt f (putAt f words (inner-place k n) (replicate (recordWords (f .form) k) 0)) keys (inner-place k n) ≡ true
-clear-blank {f} w k n h =
-    ap (all (atMost 0)) (put-same w (inner-place k n) (replicate (recordWords (f .form) k) 0) h (length-replicate (recordWords (f .form) k) 0))
-    ∙ zeros-all (recordWords (f .form) k) 0

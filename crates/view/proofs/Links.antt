@@ -23,8 +23,8 @@ use Rattle.pools.specs.Link.{LeafOrEnd, setTrailer, setNext, setPrevious, setLi
 use Rattle.view.specs.Cells.{wordZero, Same}
 use Rattle.view.specs.Links.{UsedOrEnd, Direction}
 use Rattle.view.proofs.Views.{cell-in, used-place, same-view}
-use Rattle.view.proofs.Puts.{put-same, put-other, put-fits, put-keeps}
-use Rattle.view.proofs.Trailers.{trailer-record, trailer-keeps, trailer-fits}
+use Rattle.view.proofs.Puts.{put-same, put-fits, put-keeps}
+use Rattle.view.proofs.Trailers.{trailer-keeps, trailer-fits}
 
 pub used-leaf : (f : Frame) (words keys : List ℕ) (ref : ℕ) → UsedOrEnd f words keys ref → LeafOrEnd f ref
 used-leaf f words keys ref (inl e) = inl e
@@ -63,13 +63,6 @@ module _ {f : Frame} {words keys : List ℕ} {t i : ℕ} (w : FrameOf f words ke
       let n = u .0 in
       subst (λ (l : List ℕ). FrameOf f l keys) (sym (link-put ref n (u .1)))
       (put-fits w (leaf-place n) (set (recordAt f words (leaf-place n)) i v) (u .2) (link-long n (u .2)))
-
-  -- the record of every other place
-  link-record : (ref : ℕ) → LeafOrEnd f ref → (x : Place) → inPool f x ≡ true → refOf x ≢ ref → recordAt f (setLink t i f ref v words) x ≡ recordAt f words x
-  link-record ref (inl e) x hx ne = ap (λ (l : List ℕ). recordAt f l x) (link-trailer ref e) ∙ trailer-record w t v x hx
-  link-record ref (inr u) x hx ne =
-      ap (λ (l : List ℕ). recordAt f l x) (link-put ref (u .0) (u .1))
-      ∙ put-other w (leaf-place (u .0)) (set (recordAt f words (leaf-place (u .0))) i v) (u .2) (link-long (u .0) (u .2)) x hx (λ e. ne (ap refOf e ∙ sym (u .1)))
 
   -- the leaf written
   module _ (n : ℕ) (hn : inPool f (leaf-place n) ≡ true) where
@@ -151,10 +144,6 @@ module _ {f : Frame} {words keys : List ℕ} (w : FrameOf f words keys) (ref v :
   unfolding setNext
   next-keeps = link-keeps w next-way v ref
 
-  pub next-record : LeafOrEnd f ref → (x : Place) → inPool f x ≡ true → refOf x ≢ ref → recordAt f (setNext f ref v words) x ≡ recordAt f words x
-  unfolding setNext
-  next-record = link-record w next-way v ref
-
   pub previous-fits : LeafOrEnd f ref → FrameOf f (setPrevious f ref v words) keys
   unfolding setPrevious
   previous-fits = link-fits w previous-way v ref
@@ -166,10 +155,6 @@ module _ {f : Frame} {words keys : List ℕ} (w : FrameOf f words keys) (ref v :
   pub previous-keeps : UsedOrEnd f words keys ref → (x : Place) → inPool f x ≡ true → Same f words keys (setPrevious f ref v words) keys x
   unfolding setPrevious
   previous-keeps = link-keeps w previous-way v ref
-
-  pub previous-record : LeafOrEnd f ref → (x : Place) → inPool f x ≡ true → refOf x ≢ ref → recordAt f (setPrevious f ref v words) x ≡ recordAt f words x
-  unfolding setPrevious
-  previous-record = link-record w previous-way v ref
 
 -- no such reference names an inner record
 pub inner-ref : {f : Frame} {words keys : List ℕ} → FrameOf f words keys → (ref : ℕ) → LeafOrEnd f ref → (k n : ℕ) → inPool f (inner-place k n) ≡ true → refOf (inner-place k n) ≢ ref

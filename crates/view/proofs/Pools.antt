@@ -23,14 +23,6 @@ use Rattle.view.proofs.Apart.{start-at, number-few}
 
 -- ── one pool ──
 module _ (words : List ℕ) (z : ℕ) where
-  from-le : (a c : ℕ) → lowestFrom words a z c ≤ c
-  from-le a zero = omega arith
-  from-le a (suc c) = go (eqb (getD words a 0) 0) (from-le (a + z) c)
-    where
-      go : (t : Bool) → lowestFrom words (a + z) z c ≤ c → choose t 0 (suc (lowestFrom words (a + z) z c)) ≤ suc c
-      go true h = omega arith
-      go false h = omega arith
-
   next-at : (a i : ℕ) → a + z + i * z ≡ a + suc i * z
   next-at a i = omega arith
 
@@ -62,10 +54,6 @@ word-zero f words x = between-at words (startAt f x) (startAt f x + sizeAt f x) 
     some (inner-place k n) = omega arith
 
 module _ (f : Frame) (words : List ℕ) where
-  pub lowest-within : (k : ℕ) → lowestFree f words k ≤ getD (f .caps) k 0
-  unfolding lowestFree
-  lowest-within k = from-le words (getD (f .sizes) k 0) (getD (f .starts) k 0) (getD (f .caps) k 0)
-
   -- below the capacity it is the number of a free record
   pub lowest-free : (x : Place) → inPool f x ≡ true → numberAt x ≡ lowestFree f words (kindAt x) → wordZero f words x ≡ 0
   unfolding lowestFree

@@ -2,7 +2,7 @@
 use Prim.Native.Nat.{ℕ, _+_, _-_, _≤_}
 use mathlib.Core.Path.{_≡_, refl, sym, ap, ap₂, _∙_}
 use mathlib.Core.Logic.{_⊎_, inl, inr, _≢_}
-use mathlib.Core.List.{List, [], _∷_}
+use mathlib.Core.List.{List}
 use mathlib.Core.Bool.{true, _&&_}
 use native.Mathlib.Omega.{arith}
 use lib.ListN.{length}
@@ -11,13 +11,13 @@ use Rattle.lists.specs.Part.{between}
 use Rattle.lists.proofs.Parts.{splice-length, splice-same, splice-before, splice-after}
 use Rattle.frames.specs.Frame.{FrameOf, frameFits, frameOf, trailerOf, trailerFits}
 use Rattle.frames.specs.Place.{inPool, startAt, sizeAt, recordAt, putAt}
-use Rattle.records.specs.View.{Held, cellOf, ruleAt, blankAt, keyFor, cellIn, ruleIn, blankIn}
+use Rattle.records.specs.View.{cellOf, ruleAt, blankAt, keyFor, cellIn, ruleIn, blankIn}
 use Rattle.frames.specs.declared.frame.Frame.{Frame}
 use Rattle.frames.proofs.Places.{place-room}
-use Rattle.art.specs.Stores.{Place, Store, write, apply}
-use Rattle.view.specs.Cells.{Same, putAll, cellsIn, Off, Fitting}
+use Rattle.art.specs.Stores.{Place, write}
+use Rattle.view.specs.Cells.{Same}
 use Rattle.view.proofs.Apart.{apart}
-use Rattle.view.proofs.Views.{same-at, one-cell, same-then}
+use Rattle.view.proofs.Views.{same-at, one-cell}
 
 -- the frame stays where the trailer and both lengths do
 pub frame-stays : {f : Frame} {words keys : List ℕ} → FrameOf f words keys → (words′ keys′ : List ℕ) → length words′ ≡ length words → length keys′ ≡ length keys
@@ -77,29 +77,3 @@ module _ {f : Frame} {words keys : List ℕ} (w : FrameOf f words keys) (y : Pla
 
   pub put-blank : blankAt f (putAt f words y rec) keys y ≡ blankIn y rec (keyFor f keys y)
   put-blank = ap (λ (l : List ℕ). blankIn y l (keyFor f keys y)) put-same
-
--- ── several writes ──
-module _ {f : Frame} {keys : List ℕ} where
-  pub all-fits : (words : List ℕ) → FrameOf f words keys → (es : List (Place × List ℕ)) → Fitting f es → FrameOf f (putAll f words es) keys
-  all-fits words w [] h = w
-  all-fits words w (e ∷ es) h = all-fits (putAt f words (e .0) (e .1)) (put-fits w (e .0) (e .1) (h .0) (h .1)) es (h .2)
-
-  pub put-all : (words : List ℕ) → FrameOf f words keys → (es : List (Place × List ℕ)) → Fitting f es
-      → cellOf f (putAll f words es) keys ≡ apply (cellOf f words keys) (cellsIn f keys es)
-  put-all words w [] h = refl
-  put-all words w (e ∷ es) h =
-      put-all (putAt f words (e .0) (e .1)) (put-fits w (e .0) (e .1) (h .0) (h .1)) es (h .2)
-      ∙ ap (λ (σ : Store Held). apply σ (cellsIn f keys es)) (put-cell w (e .0) (e .1) (h .0) (h .1))
-
-  pub all-trailer : (words : List ℕ) → FrameOf f words keys → (es : List (Place × List ℕ)) → Fitting f es → trailerOf (putAll f words es) ≡ trailerOf words
-  all-trailer words w [] h = refl
-  all-trailer words w (e ∷ es) h =
-      all-trailer (putAt f words (e .0) (e .1)) (put-fits w (e .0) (e .1) (h .0) (h .1)) es (h .2) ∙ put-trailer w (e .0) (e .1) (h .0) (h .1)
-
-  -- every other place is as it was
-  pub all-keeps : (words : List ℕ) → FrameOf f words keys → (es : List (Place × List ℕ)) → Fitting f es → (x : Place) → inPool f x ≡ true → Off x es
-      → Same f words keys (putAll f words es) keys x
-  all-keeps words w [] h x hx o = record { cell = refl; rule = refl; blank = refl }
-  all-keeps words w (e ∷ es) h x hx o =
-      same-then (put-keeps w (e .0) (e .1) (h .0) (h .1) x hx (o .0))
-      (all-keeps (putAt f words (e .0) (e .1)) (put-fits w (e .0) (e .1) (h .0) (h .1)) es (h .2) x hx (o .1))

@@ -67,19 +67,6 @@ module _ (f : Frame) (words keys : List ℕ) where
       let e : innerShown k n ≡ inner-cell len stored refs = r .2 in
       record { pool = r .0; used = eqb-false _ _ (r .1); len-is = cc; stored-is = cc; refs-are = cc }
 
-  -- an inner record's place shows no leaf, and a leaf's no inner record
-  pub inner-no-leaf : (k n : ℕ) (tag : List ℕ) (a : Held) → cellOf f words keys (inner-place k n) ≡ leaf-cell tag a → ⊥
-  inner-no-leaf k n tag a h =
-      let e : innerShown k n ≡ leaf-cell tag a = inner-picked k n (leaf-cell tag a) h tt .2 in
-      let y : _≡_ {A = ℕ} 0 1 = cc in
-      omega arith
-
-  pub leaf-no-inner : (n len : ℕ) (stored : List ℕ) (refs : List (ℕ × Place)) → cellOf f words keys (leaf-place n) ≡ inner-cell len stored refs → ⊥
-  leaf-no-inner n len stored refs h =
-      let e : leafShown n ≡ inner-cell len stored refs = leaf-picked n (inner-cell len stored refs) h tt .2 in
-      let y : _≡_ {A = ℕ} 0 1 = cc in
-      omega arith
-
 places-length : (es : List (ℕ × ℕ)) → length (places es) ≡ length es
 places-length [] = refl
 places-length (e ∷ es) = ap suc (places-length es)

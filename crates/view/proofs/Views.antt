@@ -82,8 +82,3 @@ module _ (f : Frame) (words keys words′ keys′ : List ℕ) where
       go x (yes e) b p = ap (cellOf f words′ keys′) e ∙ cell-in f words′ keys′ y hy
       go x (no n) true p = h x p n
       go x (no n) false p = cell-out f words′ keys′ x p ∙ sym (cell-out f words keys x p)
-
--- one change after another
-pub same-then : {f : Frame} {words keys words′ keys′ words″ keys″ : List ℕ} {x : Place} → Same f words keys words′ keys′ x → Same f words′ keys′ words″ keys″ x
-    → Same f words keys words″ keys″ x
-same-then a b = record { cell = b .cell ∙ a .cell; rule = b .rule ∙ a .rule; blank = b .blank ∙ a .blank }
