@@ -1,7 +1,6 @@
 -- What an accepted insert or delete makes of a sound block: a sound block again, in the same frame, with the tag put in, altered or left out.
 use Prim.Native.Nat.{ℕ, _/_, _≤_}
 use mathlib.Core.Path.{_≡_, refl, sym, ap}
-use mathlib.Core.Logic.{_≢_}
 use mathlib.Core.List.{List}
 use mathlib.Core.Option.{some}
 use lib.ListN.{length}
@@ -28,7 +27,6 @@ use Rattle.insert.proofs.Ready.{bytes-all}
 use Rattle.insert.proofs.Sounds as insert-sounds
 use Rattle.insert.proofs.Overs as overs
 use Rattle.insert.specs.Meets.{newTotal}
-use Rattle.insert.proofs.Refusals as insert-refusals
 use Rattle.delete.specs.Plan as delete-plan
 use Rattle.delete.specs.Apply.{goneWords}
 use Rattle.delete.specs.declared.plan.Cut.{Cut}
@@ -72,10 +70,3 @@ module _ {words keys : List ℕ} (s : Sound words keys) (tag : List ℕ) (bytes 
 
     pub delete-frame : frame (goneWords (frame words) cut n gap words) ≡ frame words
     delete-frame = sym (delete-sounds.delete-fits s tag (bytes-all tag bytes) cut n gap plan .read)
-
-  -- ── the plans of a sound block ──
-  pub insert-never-broken : insert-plan.planOf (frame words) words keys tag ≢ new.Broken
-  insert-never-broken = insert-refusals.never-broken s tag bytes
-
-  pub delete-never-broken : delete-plan.planOf (frame words) words keys tag ≢ gone.Broken
-  delete-never-broken = delete-answers.never-broken s tag (bytes-all tag bytes)
