@@ -48,7 +48,7 @@ pub data Comes (f : Frame) (words keys : List ℕ) (t : Tag) : (left : ℕ) → 
   down : {left k n depth d : ℕ} {b b′ : PrefixMatchBehavior} → Comes f words keys t (suc left) (inner-place k n) depth b → Stands f words keys (inner-place k n)
       → matched f words t k n depth b ≡ On d b′ → childFor f words t k n d ≢ 0 → Comes f words keys t left (placeAt (childFor f words t k n d)) (d + 1) b′
 
--- 1 for no root; 6 for damage; 1 for a prefix that differs, for no child, for a leaf that does not fit; 0 for one that does
+-- 1 for no root; 6 for damage; 1 for a prefix that differs or that the tag is too short for, for no child, for a leaf that does not fit; 0 for one that does
 pub data Meets (f : Frame) (words keys : List ℕ) (t : Tag) (aim : Aim) : ℕ → Type 0 where
   no-root : rootWord words ≡ 0 → Meets f words keys t aim 1
   damage : {left depth : ℕ} {x : Place} {b : PrefixMatchBehavior} → Comes f words keys t left x depth b → Breaks f words keys left x → Meets f words keys t aim 6
