@@ -1,4 +1,4 @@
--- What the records show behaves as a sorted list and draws its tags, where every tag below agrees with every prefix byte, the unstored included, and with each child byte.
+-- What the records show behaves as a sorted list and draws its tags, where each tag has all bytes of the runs and child bytes above it, stored or not.
 use mathlib.Core.Path.{_≡_, refl, sym, ap, ap₂, _∙_}
 use mathlib.Core.List.{[], _∷_, _++_}
 use Prim.Native.Nat.{ℕ, suc}

@@ -13,7 +13,7 @@ use Rattle.art.specs.Listings.{under, find, lookup}
 use Rattle.art.specs.Trees.{Tree, leaf, inner, Row, end, child, contents, row-contents, Good, GoodRow, HeadAbove}
 use Rattle.art.specs.Facts.{height}
 use Rattle.art.specs.Changes.{Meet, same, short, long, part, meet}
-use Rattle.art.specs.Deletes.{Home, lost, lost-row, prune, prune-row, prune-inner, prune-child, drop-whole, change}
+use Rattle.art.specs.Deletes.{Home, stay, lost, lost-row, prune, prune-row, prune-inner, prune-child, drop-whole, change}
 use Rattle.art.specs.Stores.{Place, leaf-place, inner-place, Cell, inner-cell, Store, Edits, apply, root, refs, store, Once}
 use Rattle.art.specs.Walks.{Shows}
 use Rattle.art.specs.Drops.{spot}
@@ -27,10 +27,6 @@ use Rattle.art.proofs.Refs.{at-kid, at-none, spot-kid, relink-none}
 use Rattle.art.proofs.Lean.{lean-prune}
 use Rattle.art.proofs.Reach.{short-differs, long-differs, part-differs, Reach, held-leaf, short-leaf, long-leaf, part-leaf, same-run, short-run, part-run, no-kid, a-kid, seek-reaches}
 use Rattle.art.proofs.DeletePoints.{drops-kid, prune-spot, re-leaf-root}
-
--- a record stays where it is
-abbrev pub stay : Home
-stay k n l = (k, n)
 
 module _ {A : Type 0} where
   -- ── a change of what is held ──

@@ -10,15 +10,11 @@ use Rattle.art.specs.Trees.{Tree, leaf, contents}
 use Rattle.art.specs.Nodes.{show, walk, meets-dec}
 use Rattle.art.specs.Drawings.{one, branch, done, kid, erase, draw}
 use Rattle.art.specs.Changes.{Plan, grow, meet}
-use Rattle.art.specs.Deletes.{Home, change}
+use Rattle.art.specs.Deletes.{Home, stay, change}
 
 -- addresses, which no drawing shows
 abbrev plan : Plan
 plan = record { leaf-number = 0; fork-kind = 1; fork-number = 0; home = λ k n. (k, n) }
-
--- every record stays where it is
-abbrev stay : Home
-stay k n l = (k, n)
 
 -- ABCDEFGHIJ, with A as 65
 abbrev AtoJ : Tag

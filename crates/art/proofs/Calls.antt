@@ -9,7 +9,7 @@ use native.Mathlib.Omega.{arith}
 use Rattle.art.specs.Tags.{Tag}
 use Rattle.art.specs.Trees.{Tree, Good}
 use Rattle.art.specs.Changes.{Plan, grow}
-use Rattle.art.specs.Deletes.{Home, Sane, change, lost, prune, drop-whole}
+use Rattle.art.specs.Deletes.{Home, stay, Sane, change, lost, prune, drop-whole}
 use Rattle.art.specs.Verdicts.{Verdict, known, clash, free, judge-tree}
 use Rattle.art.specs.Facts.{Call, insert, delete, height, insert-tree, grow-room, step}
 use Rattle.art.specs.Stores.{Store, apply, root, store, Once}
@@ -22,7 +22,7 @@ use Rattle.art.proofs.Walks.{store-shows}
 use Rattle.art.proofs.Drops.{drops-done}
 use Rattle.art.proofs.InsertPoints.{point-judges, insert-makes, insert-moves}
 use Rattle.art.proofs.DeletePoints.{delete-makes, delete-moves}
-use Rattle.art.proofs.AlterPoints.{stay, alter-whole, any-home, alter-makes, alter-moves}
+use Rattle.art.proofs.AlterPoints.{alter-whole, any-home, alter-makes, alter-moves}
 
 module _ {A : Type 0} where
   -- ── an insert, by the verdict on its tag ──

@@ -190,17 +190,6 @@ linked-out k n l m d h =
     (kept-rest k n 0 0 a b b a (leaf-ref n) m (r .0) (r .1) (λ z i j. end-off l (n ∷ m) w z (inr i) (j ∙ e .0)) (e .1) (after-set k n 0 0 a b b a (rw (e .0) (end-ref 0 l (inl refl))) own) (linked-right k 0 l (n ∷ m) h .2))
 
 -- ── the same said otherwise ──
-as-from : (k k′ : Links) (r : ℕ) (l : List ℕ) → after-ref k′ r ≡ after-ref k r → k′ .last ≡ k .last
-    → ((n : ℕ) → In n l → (k′ .prev n ≡ k .prev n) × (k′ .next n ≡ k .next n)) → Linked k r l → Linked k′ r l
-as-from k k′ r [] e i f h = (e ∙ h .0, i ∙ h .1)
-as-from k k′ r (n ∷ l) e i f h =
-    (f n (inl refl) .0 ∙ h .0, e ∙ h .1, as-from k k′ (leaf-ref n) l (after-next k′ n ∙ f n (inl refl) .1 ∙ sym (after-next k n)) i (λ m j. f m (inr j)) (h .2))
-
--- links that say the same of the ends and of these leaves link them as well
-pub linked-as : (k k′ : Links) (l : List ℕ) → k′ .first ≡ k .first → k′ .last ≡ k .last → ((n : ℕ) → In n l → (k′ .prev n ≡ k .prev n) × (k′ .next n ≡ k .next n))
-    → Linked k 0 l → Linked k′ 0 l
-linked-as k k′ l e i f h = as-from k k′ 0 l (if-pos (ℕ-discrete 0 0) refl _ _ ∙ e ∙ sym (if-pos (ℕ-discrete 0 0) refl _ _)) i f h
-
 both : (a b : Bool) → a && b ≡ true → (a ≡ true) × (b ≡ true)
 both true b h = (refl, h)
 both false b h = (h, absurd (let z : _≡_ {A = ℕ} 0 1 = cc in omega arith))

@@ -13,11 +13,6 @@ use Rattle.art.proofs.Trees.{row-above}
 use Rattle.art.specs.Trees.{Tree, leaf, inner, Row, end, child, contents, row-contents, Good, GoodRow, Many, HeadAbove}
 use Rattle.art.specs.Drawings.{branch, kid, common, Groups, shared-with, shared, add, add-entry, groups, kids-of, draw-at, longest, draw, erase, erase-row, Filled, Two, Some}
 
--- nothing is shared with the empty tag
-pub common-nil : (s : Tag) → common s [] ≡ []
-common-nil [] = refl
-common-nil (x ∷ s) = refl
-
 -- two tags below a path share the path and what they share from there on
 pub common-under : (p s t : Tag) → common (p ++ s) (p ++ t) ≡ p ++ common s t
 common-under [] s t = refl

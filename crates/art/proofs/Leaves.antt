@@ -25,31 +25,11 @@ use Rattle.art.specs.Stores.{leaf-place, unused, leaf-cell, Store, store
 use Rattle.art.proofs.Stores.{used-not}
 use Rattle.art.proofs.ReadBack.{some-inj}
 use Rattle.art.specs.Members.{In, Different}
-use Rattle.art.proofs.Members.{in-left, in-right, in-append, different-append, different-right, different-apart}
-use Rattle.art.specs.Chain.{Links, before-ref, head-of, Linked, link-in, link-out, leaves, row-leaves, leaves-of, PutParts, LeaveParts, numbers, ref-of, Numbered, NumberedRow, KeepsNumber, without}
+use Rattle.art.proofs.Members.{in-left, in-right, in-append, different-append}
+use Rattle.art.specs.Chain.{Links, before-ref, head-of, Linked, link-in, link-out, leaves, row-leaves, leaves-of, PutParts, LeaveParts, numbers, ref-of, Numbered, NumberedRow, KeepsNumber}
 use Rattle.art.proofs.Chains.{linked-in, linked-out, linked-before}
 use Rattle.art.specs.Visit.{spots, row-spots}
 use Rattle.art.proofs.Passes.{store-on, row-store-on}
-
--- ── a list without one of its numbers ──
-without-none : (n : ℕ) (l : List ℕ) → ¬ In n l → without n l ≡ l
-without-none n [] h = refl
-without-none n (m ∷ l) h = if-neg (ℕ-discrete n m) (λ e. h (inl e)) _ _ ∙ ap (λ (r : List ℕ). m ∷ r) (without-none n l (λ i. h (inr i)))
-
-without-append : (n : ℕ) (l m : List ℕ) → without n (l ++ m) ≡ without n l ++ without n m
-without-append n [] m = refl
-without-append n (x ∷ l) m = go (ℕ-discrete n x) (without-append n l m)
-  where
-    go : (d : Dec (n ≡ x)) → without n (l ++ m) ≡ without n l ++ without n m
-        → ite {C = List ℕ} d (without n (l ++ m)) (x ∷ without n (l ++ m)) ≡ ite {C = List ℕ} d (without n l) (x ∷ without n l) ++ without n m
-    go (yes e) ih = ih
-    go (no e) ih = ap (λ (r : List ℕ). x ∷ r) ih
-
--- a list without a repeat, without one of its numbers, is what stands before it and after it
-pub without-parts : (n : ℕ) (l m : List ℕ) → Different (l ++ n ∷ m) → without n (l ++ n ∷ m) ≡ l ++ m
-without-parts n l m d =
-    without-append n l (n ∷ m)
-    ∙ ap₂ (λ (p q : List ℕ). p ++ q) (without-none n l (λ i. different-apart l (n ∷ m) d n i (inl refl))) (if-pos (ℕ-discrete n n) refl _ _ ∙ without-none n m (different-right l (n ∷ m) d .0))
 
 module _ {A : Type 0} where
   -- ── all different ──
@@ -304,13 +284,6 @@ module _ {A : Type 0} (number : A → ℕ) where
         sym (numbers-are t h) ∙ ap (numbers number) (p .2) ∙ numbers-append (p .0) ((s, a) ∷ p .1),
         change-numbers t h (λ x. none) hm s (λ x y i. absurd (let z : _≡_ {A = ℕ} 0 1 = cc in omega arith)) ∙ ap (numbers number) (change-held t g (λ x. none) hm s ∙ p .3) ∙ numbers-append (p .0) (p .1),
       )
-
-  -- so they are the leaves without that one
-  pub cut-without : (t : Tree A) → Good t → Once t [] → Numbered number t → (hm : Home) (s : Tag) (a : A) → lookup s (contents t) ≡ some a
-      → leaves-of (change t (λ x. none) hm s) ≡ without (number a) (leaves t)
-  cut-without t g o h hm s a e =
-      let p = cut-leaves t g h hm s a e in
-      p .3 ∙ sym (ap (without (number a)) (p .2) ∙ without-parts (number a) (p .0) (p .1) (subst Different (p .2) (leaves-different t [] o)))
 
   -- and the leaf taken out of the links leaves the list of the tree without the tag
   pub cut-linked : (k : Links) (t : Tree A) → Good t → Once t [] → Numbered number t → (hm : Home) (s : Tag) (a : A) → lookup s (contents t) ≡ some a

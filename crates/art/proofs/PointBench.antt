@@ -3,12 +3,12 @@ use mathlib.Core.Path.{_≡_, refl}
 use mathlib.Core.List.{[], _∷_, _++_}
 use Prim.Native.Nat.{ℕ}
 use native.Mathlib.Decide.{ℕ-discrete, decLe}
+use Rattle.art.specs.Deletes.{stay}
 use Rattle.art.specs.Tags.{Tag, order}
 use Rattle.art.specs.Trees.{Tree, leaf, inner, end, child}
 use Rattle.art.specs.Changes.{Plan}
 use Rattle.art.specs.Stores.{leaf-place, inner-place, unused, leaf-cell, inner-cell, Store, root, store}
 use Rattle.art.specs.Points.{top, via, holds, clashes, into, fork, point, insert-at, delete-at}
-use Rattle.art.proofs.AlterPoints.{stay}
 
 -- the next leaf is 2, the next branching 1 in kind 1
 abbrev plan : Plan

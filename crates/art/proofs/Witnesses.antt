@@ -3,19 +3,18 @@ use mathlib.Core.Path.{_≡_, refl, sym, ap, subst, _∙_}
 use mathlib.Core.Logic.{ite, if-pos}
 use mathlib.Core.Bool.{Bool}
 use mathlib.Core.Option.{Option, none, some}
-use mathlib.Core.List.{List, [], _∷_, _++_, append-assoc, head-eq-of-cons-eq}
+use mathlib.Core.List.{List, [], _∷_, _++_, append-assoc}
 use Prim.Native.Nat.{ℕ, zero, suc, _+_, _<_}
 use native.Mathlib.Decide.{ℕ-discrete}
 use native.Mathlib.Omega.{arith}
-use lib.ListN.{length, take, drop, getD, length-append, length-take, length-drop, take-append-drop}
-use lib.Seq.{take-add, take-suc, take-append-seam, length-take-le, take-at}
+use lib.ListN.{length, take, drop, length-append, length-take, length-drop, take-append-drop}
+use lib.Seq.{take-add, take-append-seam, length-take-le, take-at}
 use Rattle.art.specs.Tags.{Tag, Begins, begins-dec, tag-dec}
-use Rattle.art.proofs.Tags.{cut}
 use Rattle.art.specs.Stores.{Place, cell-tag, leaf-place, inner-place, Cell, unused, leaf-cell, inner-cell, Store}
 use Rattle.art.specs.ReadBack.{first-cell, first-tag}
 use Rattle.art.proofs.ReadBack.{some-inj}
 use Rattle.art.specs.Visit.{and-then, State, mark, enlist, visit-refs, visit-run, visit-cell, visit}
-use Rattle.art.specs.Witness.{Hand, by-tag, by-number, Tells, goes-on, probe-more, probe-refs, probe-run, probe-cell, probe}
+use Rattle.art.specs.Witness.{Hand, by-number, Tells, goes-on, probe-more, probe-refs, probe-run, probe-cell, probe}
 
 none-some : {X Y : Type 0} {y : Y} → none ≡ some y → X
 none-some e = let z : _≡_ {A = ℕ} 0 1 = cc in absurd (omega arith)
@@ -234,30 +233,8 @@ module _ {W : Type 0} (k : Hand W) where
         go (some h) = if-pos (begins-dec [] (k .tag (h .0))) (k .tag (h .0), refl) _ _
 
 module _ {A : Type 0} where
-  -- a tag that is handed up is told on every store
-  pub tag-tells : (σ : Store A) → Tells by-tag σ
-  tag-tells σ n t a e = refl
-
   -- and so is the number of a leaf
   pub number-tells : (σ : Store A) → Tells (by-number σ) σ
   number-tells σ n t a e = ap cell-tag e
 
 -- ── what the code compares ──
--- a first child's witness that is longer than the depth and has the child's byte there goes on from itself
-pub own-byte : (e b : ℕ) (t : Tag) → e < length t → getD t e 0 ≡ b → take (suc e) t ≡ take e t ++ b ∷ []
-own-byte e b t l h = take-suc t e 0 l ∙ ap (λ (c : ℕ). take e t ++ c ∷ []) h
-
--- and a later one that besides has the same bytes up to the depth goes on from the first
-pub other-byte : (e b : ℕ) (w t : Tag) → e < length t → take e t ≡ take e w → getD t e 0 ≡ b → take (suc e) t ≡ take e w ++ b ∷ []
-other-byte e b w t l i h = own-byte e b t l h ∙ ap (λ (p : Tag). p ++ b ∷ []) i
-
--- what goes on from a longer witness is longer than the depth, has the same bytes up to it, and the child's byte there
-pub byte-other : (e b : ℕ) (w t : Tag) → e < length w → take (suc e) t ≡ take e w ++ b ∷ [] → (e < length t) × (take e t ≡ take e w) × (getD t e 0 ≡ b)
-byte-other e b w t l h =
-    let long : e < length t = omega (arith, length-take (suc e) t, length-take e w, length-append (take e w) (b ∷ []), ap length h) in
-    let c = cut (take e t) (take e w) (length-take-le e t (omega arith) ∙ sym (length-take-le e w (omega arith))) (getD t e 0 ∷ []) (b ∷ []) (sym (take-suc t e 0 long) ∙ h) in
-    (long, c .0, head-eq-of-cons-eq (c .1))
-
--- and what goes on from itself is longer and has the byte
-pub byte-own : (e b : ℕ) (t : Tag) → take (suc e) t ≡ take e t ++ b ∷ [] → (e < length t) × (getD t e 0 ≡ b)
-byte-own e b t h = let r = byte-other e b t t (longer e b t h) h in (r .0, r .2)

@@ -17,6 +17,7 @@ room-root none pt old = old
 room-root (some pl) pt old = insert-root pl pt old
 
 module _ {A : Type 0} where
+  -- the tag that a call is given
   abbrev pub call-tag : Call A → Tag
   call-tag (insert s a g room) = s
   call-tag (delete s) = s
@@ -64,18 +65,22 @@ module _ {A : Type 0} where
   call-root f σ hm (some x) c = point-root σ hm c (point f σ x (call-tag c)) x
 
   -- ── what is asked of a directory and of the places that a call may take ──
+  -- the records that an insert may take are free
   abbrev pub RoomFresh : Option Plan → Store A → Type 0
   RoomFresh none σ = Unit {0}
   RoomFresh (some pl) σ = Fresh pl σ
 
+  -- and so are those that a call may take
   abbrev pub CallFresh : Home → Call A → Store A → Type 0
   CallFresh hm (insert s a g room) σ = RoomFresh room σ
   CallFresh hm (delete s) σ = Roomy hm σ
 
+  -- no place stands twice in it
   abbrev pub OnceOf : Option (Tree A) → Type 0
   OnceOf none = Unit {0}
   OnceOf (some t) = Once t []
 
+  -- and no path in it is as long as that
   abbrev pub Low : Option (Tree A) → ℕ → Type 0
   Low none f = Unit {0}
   Low (some t) f = height t < f

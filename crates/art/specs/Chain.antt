@@ -140,8 +140,3 @@ module _ {A : Type 0} where
       pub NumberedRow : Row A → Type 0
       NumberedRow end = Unit {0}
       NumberedRow (child b t r) = Numbered t × NumberedRow r
-
--- the list without n
-abbrev pub without : ℕ → List ℕ → List ℕ
-without n [] = []
-without n (m ∷ l) = ite (ℕ-discrete n m) (without n l) (m ∷ without n l)

@@ -13,6 +13,10 @@ use Rattle.art.specs.Changes.{Meet, same, short, long, part, meet}
 abbrev pub Home : Type 0
 Home = ℕ → ℕ → ℕ → ℕ × ℕ
 
+-- it stays where it is
+abbrev pub stay : Home
+stay k n l = (k, n)
+
 module _ {A : Type 0} where
   -- whether it leaves out
   abbrev pub is-none : Option A → Bool

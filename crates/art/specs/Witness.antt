@@ -15,10 +15,6 @@ pub record Hand (W : Type 0) : Type 0 where
   pub up : ℕ → Tag → W
   pub tag : W → Tag
 
--- the tag itself is handed up
-abbrev pub by-tag : Hand Tag
-by-tag = record { up = λ n t. t; tag = λ t. t }
-
 module _ {A : Type 0} where
   -- the leaf's number is handed up, and its tag is read from the store
   abbrev pub by-number : Store A → Hand ℕ

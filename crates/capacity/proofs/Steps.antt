@@ -13,7 +13,7 @@ use Rattle.frames.proofs.KindTable.{by-kind}
 use Rattle.records.specs.View.{Held}
 use Rattle.art.specs.Tags.{Tag}
 use Rattle.art.specs.Trees.{Tree, Good}
-use Rattle.art.specs.Deletes.{held, Sane}
+use Rattle.art.specs.Deletes.{held, Sane, stay}
 use Rattle.art.specs.Facts.{height}
 use Rattle.art.specs.Stores.{leaf-place, leaf-cell, Store, empty, root, store, Once}
 use Rattle.art.specs.Chain.{Links}
@@ -23,7 +23,7 @@ use Rattle.art.proofs.Walks.{store-shows}
 use Rattle.art.proofs.FitPoints.{point-fits}
 use Rattle.art.proofs.InsertPoints.{insert-makes}
 use Rattle.art.proofs.DeletePoints.{delete-makes}
-use Rattle.art.proofs.AlterPoints.{stay, alter-makes}
+use Rattle.art.proofs.AlterPoints.{alter-makes}
 use Rattle.view.specs.Links.{linksOf}
 use Rattle.reading.specs.Answers.{Bytes}
 use Rattle.whole.specs.Sound.{Sound}

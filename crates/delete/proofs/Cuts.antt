@@ -17,7 +17,7 @@ use Rattle.records.specs.Own.{prefixAt}
 use Rattle.records.specs.View.{Held}
 use Rattle.art.specs.Tags.{Tag}
 use Rattle.art.specs.Trees.{Tree, leaf, inner}
-use Rattle.art.specs.Deletes.{Home}
+use Rattle.art.specs.Deletes.{Home, stay}
 use Rattle.art.specs.Stores.{Place, leaf-place, inner-place, Cell, unused, inner-cell, Store, Edits, write, apply, Used, root, refs}
 use Rattle.art.specs.Walks.{Shows}
 use Rattle.art.specs.Refs.{Refs, cut-ref}
@@ -49,10 +49,6 @@ rootRef (some x) = refOf x
 pub record Pruned (f : Frame) (words keys : List ℕ) (σ : Store Held) (links : Links) (count : ℕ) (cut : Cut) (hm : Home) (upper up : art.Up) (o : Place) : Type 0 where
   pub ready : CutReady f words cut
   pub state : State f (pruned f cut words) keys (apply σ (art.delete-under σ hm upper up)) links (rootRef (art.under-root σ hm upper up o)) count
-
--- where a record stays, and where one goes that shrinks
-abbrev pub stayHome : Home
-stayHome k n l = (k, n)
 
 abbrev pub shrinkHome : ℕ → ℕ → Home
 shrinkHome j m k n l = (j, m)
@@ -146,21 +142,21 @@ module _ {f : Frame} {words keys : List ℕ} {σ : Store Held} {links : Links} {
   After hm words′ = State f words′ keys (apply σ (art.delete-under σ hm above-up via-up)) links (rootRef (art.under-root σ hm above-up via-up o)) count
 
   -- ── it loses a child ──
-  pub stay-done : 3 ≤ length rs → Pruned f words keys σ links count (Stay ref b) stayHome above-up via-up o
+  pub stay-done : 3 ≤ length rs → Pruned f words keys σ links count (Stay ref b) stay above-up via-up o
   unfolding pruned
   stay-done three =
       let left : 2 ≤ length (cut-ref b rs) = omega (arith, cut-length b rs y (w .child-is)) in
-      let at : art.settle-place stayHome (ref % 8) (ref / 8) (cut-ref b rs) ≡ x = settle-home stayHome (ref % 8) (ref / 8) (cut-ref b rs) left in
-      let edits : apply σ (art.delete-under σ stayHome above-up via-up) ≡ write σ x (inner-cell len st (cut-ref b rs)) =
+      let at : art.settle-place stay (ref % 8) (ref / 8) (cut-ref b rs) ≡ x = settle-home stay (ref % 8) (ref / 8) (cut-ref b rs) left in
+      let edits : apply σ (art.delete-under σ stay above-up via-up) ≡ write σ x (inner-cell len st (cut-ref b rs)) =
       ap (apply σ)
-      (under-is stayHome
-      ∙ ap₂ (λ (es fs : Edits Held). es ++ fs) (settle-many σ stayHome (ref % 8) (ref / 8) len st (cut-ref b rs) left) (ap (art.relink-up σ above-up x) at ∙ relink-up-none σ above-up x))
+      (under-is stay
+      ∙ ap₂ (λ (es fs : Edits Held). es ++ fs) (settle-many σ stay (ref % 8) (ref / 8) len st (cut-ref b rs) left) (ap (art.relink-up σ above-up x) at ∙ relink-up-none σ above-up x))
       ∙ write-write σ x unused (inner-cell len st (cut-ref b rs)) in
-      let root′ : rootWord ≡ rootRef (art.under-root σ stayHome above-up via-up o) = er ∙ ap refOf (stays above-up o x (w .at-top) ∙ ap (art.new-root above-up o) (sym at)) ∙ sym (root-is stayHome) in
+      let root′ : rootWord ≡ rootRef (art.under-root σ stay above-up via-up o) = er ∙ ap refOf (stays above-up o x (w .at-top) ∙ ap (art.new-root above-up o) (sym at)) ∙ sym (root-is stay) in
       record {
         ready = subst (λ (p : Place). HasChild f words p b) (sym place) has-child;
         state =
-            subst (λ (p : Place). After stayHome (removeAt f p b words)) (sym place)
+            subst (λ (p : Place). After stay (removeAt f p b words)) (sym place)
             (as-state (state-remove s (ref % 8) (ref / 8) len st rs b y (w .shown) (w .child-is) three) edits root′);
       }
 
@@ -266,10 +262,10 @@ module _ {f : Frame} {words keys : List ℕ} {σ : Store Held} {links : Links} {
         same-then σ with-child freed above-up (joined-same σ len st c (σ q) above-up q (up-off-kid σ far above-up (ref % 8) (ref / 8) c q (w .above) child-at))
         (off-same with-child above-up x unused (up-off σ near above-up x (w .above)))
 
-    pub merge-done : Pruned f words keys σ links count (Merge upper ref r c) stayHome above-up via-up o
+    pub merge-done : Pruned f words keys σ links count (Merge upper ref r c) stay above-up via-up o
     unfolding pruned
     merge-done =
-        let hm = stayHome in
+        let hm = stay in
         let apart : q ≢ x = λ e. near (ref % 8) (ref / 8) c q child-at (sym e) in
         let pool′ : inPool f q ≡ true = used-pool s q (subst (λ (p : Place). Used (σ p)) (one .root-is) (shows-used (one .tree) (w .path ++ w .run ++ c ∷ []) σ (one .shows))) in
         let relink : art.relink-up σ above-up x q ≡ up-edits σ above-up q = relink-is σ above-up x q (λ e. apart (sym e)) in

@@ -6,6 +6,7 @@ use mathlib.Core.List.{List, _∷_}
 use mathlib.Core.Option.{some}
 use Rattle.frames.specs.declared.frame.Frame.{Frame}
 use Rattle.records.specs.View.{Held}
+use Rattle.art.specs.Deletes.{stay}
 use Rattle.art.specs.Tags.{Tag}
 use Rattle.art.specs.Trees.{Tree, contents}
 use Rattle.art.specs.Listings.{lookup}
@@ -17,12 +18,11 @@ use Rattle.art.proofs.Leaves.{cut-leaves}
 use Rattle.view.specs.Links.{UsedOrEnd, linksOf}
 use Rattle.reading.specs.Shown.{Shown}
 use Rattle.pointed.proofs.Neighbours.{numberOf, numbered, head-used, last-used}
-use Rattle.delete.proofs.Cuts.{stayHome}
 
 pub ends-used : {f : Frame} {words keys : List ℕ} {t : Tree Held} → Shown f words keys (some t) → (tag : Tag) (a : Held) → lookup tag (contents t) ≡ some a
     → UsedOrEnd f words keys (linksOf f words .prev (a .number)) × UsedOrEnd f words keys (linksOf f words .next (a .number))
 ends-used {f} {words} {keys} {t} s tag a e =
-    let parts = cut-leaves numberOf t (s .good) (numbered s) stayHome tag a e in
+    let parts = cut-leaves numberOf t (s .good) (numbered s) stay tag a e in
     let here = linked-here (linksOf f words) (parts .0) (a .number) (parts .1) (subst (Linked (linksOf f words) 0) (parts .2) (s .linked)) in (
       subst (UsedOrEnd f words keys) (sym (here .0)) (last-used s (parts .0) (λ n i. subst (In n) (sym (parts .2)) (in-left n (parts .0) (a .number ∷ parts .1) i))),
       subst (UsedOrEnd f words keys) (sym (here .1)) (head-used s (parts .1) (λ n i. subst (In n) (sym (parts .2)) (in-right n (parts .0) (a .number ∷ parts .1) (inr i)))),

@@ -24,7 +24,7 @@ use Rattle.records.specs.declared.representation.Entry.{Entry}
 use Rattle.art.specs.Trees.{Tree, Good, contents}
 use Rattle.art.specs.Listings.{lookup}
 use Rattle.art.specs.Facts.{height}
-use Rattle.art.specs.Deletes.{Home}
+use Rattle.art.specs.Deletes.{Home, stay}
 use Rattle.art.specs.Drops.{Roomy}
 use Rattle.art.specs.Stores.{Place, leaf-place, inner-place, Cell, unused, leaf-cell, Store, Used, root, refs, store, Once}
 use Rattle.art.specs.Refs.{Refs, find-ref, cut-ref}
@@ -60,7 +60,7 @@ use Rattle.pointed.proofs.Aparts.{up-apart, upper-apart}
 use Rattle.pointed.proofs.Ups.{inner-here}
 use Rattle.delete.proofs.Unders.{Under, UpUnder, PointUnder, point-under}
 use Rattle.delete.proofs.Lefts.{cut-length, other-left}
-use Rattle.delete.proofs.Cuts.{Pruned, stayHome, shrinkHome, root-done, stay-done, shrink-done, merge-done}
+use Rattle.delete.proofs.Cuts.{Pruned, shrinkHome, root-done, stay-done, shrink-done, merge-done}
 
 -- a cut may be made, with homes that are free, and the record above goes where it should
 pub record CutFits (f : Frame) (words keys : List ℕ) (σ : Store Held) (links : Links) (count : ℕ) (cut : Cut) (upper up : art.Up) (o : Place) : Type 0 where
@@ -96,14 +96,14 @@ module _ {f : Frame} {words keys : List ℕ} {σ : Store Held} {links : Links} {
       (λ two. goes (length (cut-ref b rs)) (cut-length b rs y (w .child-is)) two)
 
   stay-fits : 3 ≤ length rs → ((l : ℕ) → suc l ≡ length rs → 2 ≤ l → Goes f σ (ref % 8) l (ref % 8)) → Fits (Stay ref b)
-  stay-fits three goes = record { home = stayHome; roomy = λ k n l. inl refl; settles = settles-by stayHome goes; done = stay-done s near far o er upper ref b y w three }
+  stay-fits three goes = record { home = stay; roomy = λ k n l. inl refl; settles = settles-by stay goes; done = stay-done s near far o er upper ref b y w three }
 
   -- two children, of which one is left
   merge-row : length rs ≡ 2 → (row : List (ℕ × ℕ)) → length row ≡ 2 → places row ≡ rs → Fits (mergeCut upper ref b (otherEntry b row))
   merge-row left row two e =
       let other = other-left b row y two (ap (λ (l : Refs). find-ref l b) e ∙ w .child-is) in
       subst (λ (i : Entry). Fits (mergeCut upper ref b i)) (sym (other .is))
-      (record { home = stayHome; roomy = λ k n l. inl refl; settles = settles-by stayHome (λ l i more. absurd (omega arith)); done = merge-done s near far o er upper ref b y w (other .byte) (other .ref) (ap (cut-ref b) (sym e) ∙ other .left) })
+      (record { home = stay; roomy = λ k n l. inl refl; settles = settles-by stay (λ l i more. absurd (omega arith)); done = merge-done s near far o er upper ref b y w (other .byte) (other .ref) (ap (cut-ref b) (sym e) ∙ other .left) })
 
   merge-fits : length rs ≡ 2 → Fits (mergeCut upper ref b (otherEntry b (rowAt (f .form) (ref % 8) (recordAt f words x))))
   merge-fits two =
@@ -200,7 +200,7 @@ module _ {f : Frame} {words keys : List ℕ} {links : Links} {rootRef size : ℕ
   under = point-under (suc (height t)) t good once deep tag
 
   cut-of : (upper up : Up) (y : Place) → UpUnder σ (root t) (upTold upper) (upTold up) y → CutFits f words keys σ links size (cutOf f words upper up) (upTold upper) (upTold up) (root t)
-  cut-of upper Top y w = record { home = stayHome; roomy = λ k n l. inl refl; settles = tt; done = root-done s stayHome (upTold upper) (root t) }
+  cut-of upper Top y w = record { home = stay; roomy = λ k n l. inl refl; settles = tt; done = root-done s stay (upTold upper) (root t) }
   cut-of upper (Via ref b) y w = under-fits s (up-apart t once) (upper-apart t once) (root t) er upper ref b y w
 
   point-plan : (p : Point) → told p ≡ pt → PlanFits f words keys tag t links size (pointPlan f words p)

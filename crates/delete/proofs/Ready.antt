@@ -13,7 +13,7 @@ use Rattle.frames.specs.Place.{inPool}
 use Rattle.frames.specs.declared.frame.Frame.{Frame}
 use Rattle.records.specs.View.{Held}
 use Rattle.art.specs.Trees.{Tree}
-use Rattle.art.specs.Deletes.{held}
+use Rattle.art.specs.Deletes.{held, stay}
 use Rattle.art.specs.Stores.{leaf-place, Used}
 use Rattle.art.specs.Points.{store-of}
 use Rattle.art.proofs.Counts.{cut-count}
@@ -31,7 +31,6 @@ use Rattle.delete.specs.declared.plan.Cut.{Cut}
 use Rattle.delete.specs.declared.plan.Plan.the-variants.{Take}
 use Rattle.delete.specs.Plan.{gapOf, planOf}
 use Rattle.delete.specs.Apply.{TakeReady}
-use Rattle.delete.proofs.Cuts.{stayHome}
 use Rattle.delete.proofs.Neighbours.{ends-used}
 use Rattle.delete.proofs.Grounds.{SoundFits, sound-fits}
 
@@ -58,7 +57,7 @@ module _ (words keys tag : List ℕ) (cut : Cut) (n : ℕ) (gap : Gap) where
         pool = pool;
         before = subst (LeafOrEnd f) (sym previous) (used-leaf f words keys _ (ends .0));
         after = subst (LeafOrEnd f) (sym next) (used-leaf f words keys _ (ends .1));
-        counted = omega (arith, s .count-is, cut-count t (shown .good) stayHome tag (o .held) (o .found));
+        counted = omega (arith, s .count-is, cut-count t (shown .good) stay tag (o .held) (o .found));
       }
 
 pub delete-ready : {words keys : List ℕ} → Sound words keys → (tag : List ℕ) → all (atMost 255) tag ≡ true → (cut : Cut) (n : ℕ) (gap : Gap) → planOf (frame words) words keys tag ≡ Take cut n gap

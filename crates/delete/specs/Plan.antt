@@ -6,12 +6,12 @@ use lib.Dec.{eqb, leb, ltb}
 use Rattle.lists.specs.Scan.{choose}
 use Rattle.frames.specs.Kind.{markOf}
 use Rattle.frames.specs.Frame.{rootWord}
-use Rattle.frames.specs.Place.{placeAt, recordAt}
+use Rattle.frames.specs.Place.{placeAt, refOf, recordAt}
 use Rattle.frames.specs.declared.frame.Frame.{Frame}
 use Rattle.records.specs.Row.{rowAt, entryAt, lastEntry}
 use Rattle.records.specs.declared.representation.Entry.{Entry}
 use Rattle.records.specs.declared.representation.Entry.the-variants.{Child, Nothing}
-use Rattle.art.specs.Stores.{leaf-place}
+use Rattle.art.specs.Stores.{leaf-place, inner-place}
 use Rattle.pools.specs.Pool.{lowestFree}
 use Rattle.points.specs.Point.{pointOf}
 use Rattle.points.specs.declared.insert_point.Up.{Up}
@@ -43,7 +43,7 @@ mergeCut upper ref byte Nothing = Stay ref byte
 unfoldable pub shrinkCut : Frame → List ℕ → Up → ℕ → ℕ → Cut
 shrinkCut f words upper ref byte =
     let k = ref % 8 - 1 in
-    choose (ltb (lowestFree f words k) (getD (f .caps) k 0)) (Shrink upper ref (lowestFree f words k * 8 + k) byte) (Stay ref byte)
+    choose (ltb (lowestFree f words k) (getD (f .caps) k 0)) (Shrink upper ref (refOf (inner-place k (lowestFree f words k))) byte) (Stay ref byte)
 
 -- the record above the leaf, with one child less: a last one merges, at or below its mark the record shrinks, else it stays
 unfoldable pub cutUnder : Frame → List ℕ → Up → ℕ → ℕ → Cut

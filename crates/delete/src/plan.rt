@@ -98,6 +98,7 @@ fn cut_under(words: &[u32], keys: &[u8], f: Frame, upper: Up, reference: u32, by
     Cut::Stay(reference, byte)
 }
 
+// What becomes of the record above the leaf: with none above, the tree is empty.
 fn cut_of(words: &[u32], keys: &[u8], f: Frame, upper: Up, up: Up) -> Cut
     requires { ⌜ FrameOf f (now words) (now keys) × UpThere f (now words) up ⌝ }
     ensures { λ r. ⌜ r ≡ cutOf f (now (words .entry)) upper up ⌝ }

@@ -65,7 +65,7 @@ use Rattle.delete.proofs.Answers as delete-answers
 use Rattle.demands.specs.Calls.{Call, start, search, prefix-search, minimum, maximum, next-leaf, leaf-facts, leaf-tag, check, first-at-or-after, insert, delete, Slices, number}
 use Rattle.demands.specs.Histories.{CallBytes}
 use Rattle.demands.specs.Due as due
-use Rattle.demands.specs.Due.{Unframed, Framed, Short, Unsound, Passed, holds, InUse, obeys, nextRef, namesLeaf, named, Due}
+use Rattle.demands.specs.Due.{Unframed, Fitting, Short, Unsound, Passed, holds, InUse, obeys, nextRef, namesLeaf, nextNamed, Due}
 use Rattle.demands.proofs.Reading.{sound-reads}
 use Rattle.demands.proofs.Ways.{meets-number, met, ends-number, ended}
 use Rattle.demands.proofs.Tested.{Tests, unframed, short, unsound, passed, tested, check-unframed, check-short, check-unsound, check-passed, insert-too-long, insert-by, insert-passed, delete-by, delete-passed}
@@ -121,7 +121,7 @@ module _ (s : Slices) (n : ℕ) where
       ap foundNumber (next-by (u .fits) _ (good-state u r))
       ∙ ap (λ (b : Bool). foundNumber (choose b found.Missing (nextAt f (s .words) (placeAt (nextRef s n))))) (eq-eqb (nextRef s n) 0 e)
 
-  next-names : InUse s n → obeys s n ≡ true → nextRef s n ≢ 0 → (b : Bool) → named s (nextRef s n) ≡ b → foundNumber (nextLeafOf (s .words) (s .keys) n) ≡ choose {A = ℕ} b 0 6
+  next-names : InUse s n → obeys s n ≡ true → nextRef s n ≢ 0 → (b : Bool) → nextNamed s (nextRef s n) ≡ b → foundNumber (nextLeafOf (s .words) (s .keys) n) ≡ choose {A = ℕ} b 0 6
   unfolding nextOf
   next-names u r ne b e =
       ap foundNumber (next-by (u .fits) _ (good-state u r))
@@ -267,7 +267,7 @@ by-found none e miss hit = (1, miss e)
 by-found (some h) e miss hit = (0, hit h e)
 
 -- by the frame, then as the walk meets it
-by-frame : {c : Call} {s : Slices} → (Unframed s → Due c s 6) → (Framed s → Row c s) → Row c s
+by-frame : {c : Call} {s : Slices} → (Unframed s → Due c s 6) → (Fitting s → Row c s) → Row c s
 by-frame {c} {s} no-frame walked = go (frameFits (s .words) (s .keys)) refl
   where
     go : (b : Bool) → frameFits (s .words) (s .keys) ≡ b → Row c s
@@ -303,9 +303,9 @@ by-leaf {c} s n no-frame outside unused broken good =
     go true p true q false i true j = good (record { fits = p; pool = q; used = eqb-false word 0 i }) j
 
 next-row : (s : Slices) (n : ℕ) → InUse s n → obeys s n ≡ true → Row (next-leaf n) s
-next-row s n u r = go (eqb (nextRef s n) 0) refl (named s (nextRef s n)) refl
+next-row s n u r = go (eqb (nextRef s n) 0) refl (nextNamed s (nextRef s n)) refl
   where
-    go : (b : Bool) → eqb (nextRef s n) 0 ≡ b → (d : Bool) → named s (nextRef s n) ≡ d → Row (next-leaf n) s
+    go : (b : Bool) → eqb (nextRef s n) 0 ≡ b → (d : Bool) → nextNamed s (nextRef s n) ≡ d → Row (next-leaf n) s
     go true e d i = (1, due.next-end u r (eqb-true (nextRef s n) 0 e))
     go false e true i = (0, due.next-done u r (eqb-false (nextRef s n) 0 e) i)
     go false e false i = (6, due.next-unnamed u r (eqb-false (nextRef s n) 0 e) i)

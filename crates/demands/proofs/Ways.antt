@@ -33,7 +33,7 @@ use Rattle.tree.specs.declared.minmax.Edge.{Edge}
 use Rattle.tree.specs.declared.minmax.EdgeStep.{EdgeStep}
 use Rattle.tree.specs.declared.minmax.EdgeStep.the-variants as edges
 use Rattle.demands.specs.Way as way
-use Rattle.demands.specs.Way.{Breaks, outside, own-rule, none-left, Stands, matched, childFor, Comes, Meets, Descends, Ends}
+use Rattle.demands.specs.Way.{Breaks, outside, own-rule, none-left, Stands, matched, childFor, Comes, Gives, Descends, Ends}
 
 -- from the root, or 1 where there is none
 abbrev rooted : List ℕ → Found → ℕ
@@ -147,7 +147,7 @@ module _ (f : Frame) (words keys : List ℕ) where
         → rooted words walk ≡ foundNumber a
     stopped left x depth b a c e = root-number words walk a (has-root c) (comes-walk c ∙ stops left x depth b a e)
 
-    pub meets-number : {n : ℕ} → Meets f words keys t aim n → rooted words walk ≡ n
+    pub meets-number : {n : ℕ} → Gives f words keys t aim n → rooted words walk ≡ n
     meets-number (way.no-root e) = no-root-number words walk e
     meets-number (way.damage {left} {depth} {x} {b} c h) = stopped left x depth b found.Damaged c (ap (stepFrom f words keys t aim depth b) (broken h))
     meets-number (way.off-prefix {left} {k} {n} {depth} {agreed} {b} c s m) =
@@ -160,7 +160,7 @@ module _ (f : Frame) (words keys : List ℕ) where
 
     -- ── it always meets something ──
     abbrev Met : Type 0
-    Met = (n : ℕ) × Meets f words keys t aim n
+    Met = (n : ℕ) × Gives f words keys t aim n
 
     leaf-met : (left n depth : ℕ) (b : PrefixMatchBehavior) → Comes f words keys t left (leaf-place n) depth b → Stands f words keys (leaf-place n)
         → (z : Bool) → leafFits (recordAt f words (leaf-place n)) (keyAt f keys n) t aim depth b ≡ z → Met

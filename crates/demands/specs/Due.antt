@@ -1,4 +1,5 @@
 -- The numbers given back, a table by call: each row has its condition, and that none earlier applies. The call that gives a tag gives no number.
+-- On a sound block a search has two rows, what the walk meets and what the list has; their numbers are the same.
 use Prim.Native.Nat.{ℕ, _≤_, _<_}
 use mathlib.Core.Path.{_≡_}
 use mathlib.Core.Logic.{_≢_}
@@ -27,7 +28,7 @@ use Rattle.whole.specs.Marks.{placesIn}
 use Rattle.whole.specs.Sound.{Sound}
 use Rattle.insert.specs.Room.{LeavesFull, Lacking}
 use Rattle.demands.specs.Calls.{Call, start, search, prefix-search, minimum, maximum, next-leaf, leaf-facts, check, first-at-or-after, insert, delete, Slices}
-use Rattle.demands.specs.Way.{Meets, Ends}
+use Rattle.demands.specs.Way.{Gives, Ends}
 
 -- ── frame, scratch, whole check ──
 -- 6: the frame does not fit
@@ -35,17 +36,17 @@ abbrev pub Unframed : Slices → Type 0
 Unframed s = frameFits (s .words) (s .keys) ≡ false
 
 -- it fits
-abbrev pub Framed : Slices → Type 0
-Framed s = frameFits (s .words) (s .keys) ≡ true
+abbrev pub Fitting : Slices → Type 0
+Fitting s = frameFits (s .words) (s .keys) ≡ true
 
 -- 7: it fits, and scratch has fewer bytes than the block has places
 pub record Short (s : Slices) : Type 0 where
-  pub fits : Framed s
+  pub fits : Fitting s
   pub less : length (s .scratch) < placesIn (frame (s .words))
 
 -- 6: scratch is long enough, and the block is not sound
 pub record Unsound (s : Slices) : Type 0 where
-  pub fits : Framed s
+  pub fits : Fitting s
   pub room : placesIn (frame (s .words)) ≤ length (s .scratch)
   pub not-sound : ¬ Sound (s .words) (s .keys)
 
@@ -61,7 +62,7 @@ holds s = held (s .tree)
 -- ── a leaf number ──
 -- a leaf of the pool whose word 0 is not 0
 pub record InUse (s : Slices) (n : ℕ) : Type 0 where
-  pub fits : Framed s
+  pub fits : Fitting s
   pub pool : inPool (frame (s .words)) (leaf-place n) ≡ true
   pub used : getD (recordAt (frame (s .words)) (s .words) (leaf-place n)) 0 0 ≢ 0
 
@@ -77,8 +78,8 @@ abbrev pub namesLeaf : Frame → List ℕ → Place → Bool
 namesLeaf f words (leaf-place n) = inPool f (leaf-place n) && eqb (getD (recordAt f words (leaf-place n)) 0 0) 1
 namesLeaf f words (inner-place k n) = false
 
-abbrev pub named : Slices → ℕ → Bool
-named s ref = namesLeaf (frame (s .words)) (s .words) (placeAt ref)
+abbrev pub nextNamed : Slices → ℕ → Bool
+nextNamed s ref = namesLeaf (frame (s .words)) (s .words) (placeAt ref)
 
 -- ── the table ──
 pub data Due : Call → Slices → ℕ → Type 0 where
@@ -86,33 +87,33 @@ pub data Due : Call → Slices → ℕ → Type 0 where
   start-done : {c : Caps} {s : Slices} → startFits (formOf 1) c (length (s .words)) (length (s .keys)) ≡ true → Due (start c) s 0
   -- search, prefix search, minimum, maximum: frame 6, then as the walk meets it; on a sound block 1 or 0 by the list
   search-unframed : {t : Tag} {s : Slices} → Unframed s → Due (search t) s 6
-  search-walked : {t : Tag} {s : Slices} {n : ℕ} → Framed s → Meets (frame (s .words)) (s .words) (s .keys) t Exact n → Due (search t) s n
+  search-walked : {t : Tag} {s : Slices} {n : ℕ} → Fitting s → Gives (frame (s .words)) (s .words) (s .keys) t Exact n → Due (search t) s n
   search-missing : {t : Tag} {s : Slices} (z : Sound (s .words) (s .keys)) → find exact t (holds z) ≡ none → Due (search t) s 1
   search-found : {t : Tag} {s : Slices} (z : Sound (s .words) (s .keys)) (h : Held) → find exact t (holds z) ≡ some h → Due (search t) s 0
   prefix-unframed : {t : Tag} {s : Slices} → Unframed s → Due (prefix-search t) s 6
-  prefix-walked : {t : Tag} {s : Slices} {n : ℕ} → Framed s → Meets (frame (s .words)) (s .words) (s .keys) t Begin n → Due (prefix-search t) s n
+  prefix-walked : {t : Tag} {s : Slices} {n : ℕ} → Fitting s → Gives (frame (s .words)) (s .words) (s .keys) t Begin n → Due (prefix-search t) s n
   prefix-missing : {t : Tag} {s : Slices} (z : Sound (s .words) (s .keys)) → find begin t (holds z) ≡ none → Due (prefix-search t) s 1
   prefix-found : {t : Tag} {s : Slices} (z : Sound (s .words) (s .keys)) (h : Held) → find begin t (holds z) ≡ some h → Due (prefix-search t) s 0
   minimum-unframed : {s : Slices} → Unframed s → Due minimum s 6
-  minimum-walked : {s : Slices} {n : ℕ} → Framed s → Ends (frame (s .words)) (s .words) (s .keys) Low n → Due minimum s n
+  minimum-walked : {s : Slices} {n : ℕ} → Fitting s → Ends (frame (s .words)) (s .words) (s .keys) Low n → Due minimum s n
   minimum-missing : {s : Slices} (z : Sound (s .words) (s .keys)) → first-of (holds z) ≡ none → Due minimum s 1
   minimum-found : {s : Slices} (z : Sound (s .words) (s .keys)) (h : Held) → first-of (holds z) ≡ some h → Due minimum s 0
   maximum-unframed : {s : Slices} → Unframed s → Due maximum s 6
-  maximum-walked : {s : Slices} {n : ℕ} → Framed s → Ends (frame (s .words)) (s .words) (s .keys) High n → Due maximum s n
+  maximum-walked : {s : Slices} {n : ℕ} → Fitting s → Ends (frame (s .words)) (s .words) (s .keys) High n → Due maximum s n
   maximum-missing : {s : Slices} (z : Sound (s .words) (s .keys)) → last-of (holds z) ≡ none → Due maximum s 1
   maximum-found : {s : Slices} (z : Sound (s .words) (s .keys)) (h : Held) → last-of (holds z) ≡ some h → Due maximum s 0
   -- next leaf and leaf facts: frame 6, 9, the leaf's own rule 6
   next-unframed : {n : ℕ} {s : Slices} → Unframed s → Due (next-leaf n) s 6
-  next-outside : {n : ℕ} {s : Slices} → Framed s → inPool (frame (s .words)) (leaf-place n) ≡ false → Due (next-leaf n) s 9
-  next-free : {n : ℕ} {s : Slices} → Framed s → inPool (frame (s .words)) (leaf-place n) ≡ true
+  next-outside : {n : ℕ} {s : Slices} → Fitting s → inPool (frame (s .words)) (leaf-place n) ≡ false → Due (next-leaf n) s 9
+  next-free : {n : ℕ} {s : Slices} → Fitting s → inPool (frame (s .words)) (leaf-place n) ≡ true
       → getD (recordAt (frame (s .words)) (s .words) (leaf-place n)) 0 0 ≡ 0 → Due (next-leaf n) s 9
   next-broken : {n : ℕ} {s : Slices} → InUse s n → obeys s n ≡ false → Due (next-leaf n) s 6
-  next-unnamed : {n : ℕ} {s : Slices} → InUse s n → obeys s n ≡ true → nextRef s n ≢ 0 → named s (nextRef s n) ≡ false → Due (next-leaf n) s 6
+  next-unnamed : {n : ℕ} {s : Slices} → InUse s n → obeys s n ≡ true → nextRef s n ≢ 0 → nextNamed s (nextRef s n) ≡ false → Due (next-leaf n) s 6
   next-end : {n : ℕ} {s : Slices} → InUse s n → obeys s n ≡ true → nextRef s n ≡ 0 → Due (next-leaf n) s 1
-  next-done : {n : ℕ} {s : Slices} → InUse s n → obeys s n ≡ true → nextRef s n ≢ 0 → named s (nextRef s n) ≡ true → Due (next-leaf n) s 0
+  next-done : {n : ℕ} {s : Slices} → InUse s n → obeys s n ≡ true → nextRef s n ≢ 0 → nextNamed s (nextRef s n) ≡ true → Due (next-leaf n) s 0
   facts-unframed : {n : ℕ} {s : Slices} → Unframed s → Due (leaf-facts n) s 6
-  facts-outside : {n : ℕ} {s : Slices} → Framed s → inPool (frame (s .words)) (leaf-place n) ≡ false → Due (leaf-facts n) s 9
-  facts-free : {n : ℕ} {s : Slices} → Framed s → inPool (frame (s .words)) (leaf-place n) ≡ true
+  facts-outside : {n : ℕ} {s : Slices} → Fitting s → inPool (frame (s .words)) (leaf-place n) ≡ false → Due (leaf-facts n) s 9
+  facts-free : {n : ℕ} {s : Slices} → Fitting s → inPool (frame (s .words)) (leaf-place n) ≡ true
       → getD (recordAt (frame (s .words)) (s .words) (leaf-place n)) 0 0 ≡ 0 → Due (leaf-facts n) s 9
   facts-broken : {n : ℕ} {s : Slices} → InUse s n → obeys s n ≡ false → Due (leaf-facts n) s 6
   facts-done : {n : ℕ} {s : Slices} → InUse s n → obeys s n ≡ true → Due (leaf-facts n) s 0

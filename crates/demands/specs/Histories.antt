@@ -52,6 +52,7 @@ pub data Change : Type 0 where
   leaves : (tag : List ℕ) → Change
   nothing : Change
 
+-- by the answer of start, of insert and of delete: a refusal changes nothing
 abbrev pub startChange : Started → Change
 startChange started.Done = fresh
 startChange started.Refused = nothing
@@ -72,6 +73,7 @@ deleteChange tag deleted.Missing = nothing
 deleteChange tag deleted.Damaged = nothing
 deleteChange tag deleted.ShortScratch = nothing
 
+-- by the call and its answer: reading changes nothing
 abbrev pub changeOf : Call → Slices → Change
 changeOf (calls.start c) s = startChange (startOf (s .words) (s .keys) c .answer)
 changeOf (calls.search t) s = nothing
@@ -99,6 +101,7 @@ told l (alters tag total) = alter (λ x. some total) tag l
 told l (leaves tag) = leave tag l
 told l nothing = l
 
+-- call by call, each on the block that the calls before it left
 abbrev pub told-all : Block → Listing ℕ → List Turn → Listing ℕ
 told-all b l [] = l
 told-all b l (t ∷ ts) = told-all (next b t) (told l (changeOf (t .call) (lent b t))) ts
@@ -111,6 +114,7 @@ counted n (alters tag total) = n
 counted n (leaves tag) = n - 1
 counted n nothing = n
 
+-- the same, call by call
 abbrev pub counted-all : Block → ℕ → List Turn → ℕ
 counted-all b n [] = n
 counted-all b n (t ∷ ts) = counted-all (next b t) (counted n (changeOf (t .call) (lent b t))) ts

@@ -3,6 +3,7 @@ pub mod Histories
 pub mod Frames
 pub mod Scratch
 pub mod Drawn
+pub mod Listed
 pub mod Story
 pub mod Accepts
 pub mod Way

@@ -8,19 +8,22 @@ use Rattle.art.specs.Deletes.{held}
 use Rattle.art.specs.Facts.{branchings}
 use Rattle.reading.specs.Calls.{Reads}
 use Rattle.whole.specs.Sound.{Sound}
-use Rattle.demands.specs.Histories.{Block, totals}
+use Rattle.demands.specs.Histories.{Block, Turn, answered, CallBytes, totals}
 use Rattle.demands.specs.Drawn.{drawing, usedInner}
+use Rattle.demands.specs.Listed.{Listed}
 
+-- b holds the tags and totals of l, n of them
 pub record Story (b : Block) (l : Listing ℕ) (n : ℕ) : Type 0 where
-  -- it is sound
   pub sound : Sound (b .words) (b .keys)
-  -- its tags and totals are those that the accepted calls define
+  -- what it holds is what the accepted calls define
   pub totals-are : totals (held (sound .tree)) ≡ l
-  -- the reading calls answer as this list
+  -- which is sorted, read by the reading calls and listed by a walk from leaf to leaf
   pub reads : Reads (b .words) (b .keys) (held (sound .tree))
-  -- its drawing is drawn from these alone
+  -- so that the answer of any of them, made next, is the list's
+  pub listed : (t : Turn) → CallBytes (t .call) → Listed (held (sound .tree)) (t .call) (answered b t)
+  -- its tree is the one that these tags alone draw
   pub draws : drawing (sound .tree) ≡ draw l
-  -- used inner records equal the drawing's branchings
+  -- with an inner record in use for each branching of the drawing, and no other
   pub inner : usedInner (b .words) ≡ branchings (draw l)
-  -- the tag count equals accepted new inserts less accepted deletes since start
+  -- the count word has the number of accepted new inserts since start, less that of accepted deletes
   pub count : countWord (b .words) ≡ n

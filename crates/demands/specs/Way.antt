@@ -49,17 +49,17 @@ pub data Comes (f : Frame) (words keys : List ℕ) (t : Tag) : (left : ℕ) → 
       → matched f words t k n depth b ≡ On d b′ → childFor f words t k n d ≢ 0 → Comes f words keys t left (placeAt (childFor f words t k n d)) (d + 1) b′
 
 -- 1 for no root; 6 for damage; 1 for a prefix that differs or that the tag is too short for, for no child, for a leaf that does not fit; 0 for one that does
-pub data Meets (f : Frame) (words keys : List ℕ) (t : Tag) (aim : Aim) : ℕ → Type 0 where
-  no-root : rootWord words ≡ 0 → Meets f words keys t aim 1
-  damage : {left depth : ℕ} {x : Place} {b : PrefixMatchBehavior} → Comes f words keys t left x depth b → Breaks f words keys left x → Meets f words keys t aim 6
+pub data Gives (f : Frame) (words keys : List ℕ) (t : Tag) (aim : Aim) : ℕ → Type 0 where
+  no-root : rootWord words ≡ 0 → Gives f words keys t aim 1
+  damage : {left depth : ℕ} {x : Place} {b : PrefixMatchBehavior} → Comes f words keys t left x depth b → Breaks f words keys left x → Gives f words keys t aim 6
   off-prefix : {left k n depth agreed : ℕ} {b : PrefixMatchBehavior} → Comes f words keys t (suc left) (inner-place k n) depth b → Stands f words keys (inner-place k n)
-      → matched f words t k n depth b ≡ Off agreed → Meets f words keys t aim 1
+      → matched f words t k n depth b ≡ Off agreed → Gives f words keys t aim 1
   no-child : {left k n depth d : ℕ} {b b′ : PrefixMatchBehavior} → Comes f words keys t (suc left) (inner-place k n) depth b → Stands f words keys (inner-place k n)
-      → matched f words t k n depth b ≡ On d b′ → childFor f words t k n d ≡ 0 → Meets f words keys t aim 1
+      → matched f words t k n depth b ≡ On d b′ → childFor f words t k n d ≡ 0 → Gives f words keys t aim 1
   other-leaf : {left n depth : ℕ} {b : PrefixMatchBehavior} → Comes f words keys t left (leaf-place n) depth b → Stands f words keys (leaf-place n)
-      → leafFits (recordAt f words (leaf-place n)) (keyAt f keys n) t aim depth b ≡ false → Meets f words keys t aim 1
+      → leafFits (recordAt f words (leaf-place n)) (keyAt f keys n) t aim depth b ≡ false → Gives f words keys t aim 1
   the-leaf : {left n depth : ℕ} {b : PrefixMatchBehavior} → Comes f words keys t left (leaf-place n) depth b → Stands f words keys (leaf-place n)
-      → leafFits (recordAt f words (leaf-place n)) (keyAt f keys n) t aim depth b ≡ true → Meets f words keys t aim 0
+      → leafFits (recordAt f words (leaf-place n)) (keyAt f keys n) t aim depth b ≡ true → Gives f words keys t aim 0
 
 -- ── minimum and maximum ──
 -- the root's place, then from each inner record that of its lowest or highest child

@@ -58,6 +58,6 @@ module _ (words keys : List ℕ) (n : ℕ) where
   by-length true e = sym (no-bytes tag (eqb-true _ _ e))
   by-length false e = framed (frameFits words keys) refl (eqb-false _ _ e)
 
-  pub part-tag : between keys (partOf words keys n .start) (partOf words keys n .start + partOf words keys n .length) ≡ tagOf words keys n
+  pub part-tag : let p : DirectoryPart = partOf words keys n (tagOf words keys n) in between keys (p .start) (p .start + p .length) ≡ tagOf words keys n
   unfolding partOf
   part-tag = by-length (eqb (length tag) 0) refl

@@ -1,14 +1,9 @@
 // The functions for C. Slices pass as a pointer and a count; include/directory.h says what each call is for.
+ghost use mathlib.Core.List.{[]};
 ghost use mathlib.Core.Path.{_≡_};
-ghost use Rattle.pools.specs.Start.{startNumber, startOf};
-ghost use Rattle.tree.specs.Walk.{searchOf, prefixSearchOf};
-ghost use Rattle.tree.specs.Edge.{minimumOf, maximumOf};
-ghost use Rattle.leaves.specs.Leaf.{nextLeafOf, factsOf};
-ghost use Rattle.whole.specs.Check.{numberOf, checkOf};
-ghost use Rattle.range.specs.Range.{afterOf};
-ghost use Rattle.insert.specs.Insert.{insertOf};
-ghost use Rattle.delete.specs.Delete.{deleteOf};
-ghost use Rattle.directory_c.specs.Numbers.{started, startedOf, capsOf, foundOf, leafOf, tagStart, partOf, checked, checkedOf, afterFound, after, afterFoundOf, change, insertChange, deleteChange, written, insertWritten, deleteWritten};
+ghost use Rattle.demands.specs.Calls as calls;
+ghost use Rattle.demands.specs.Calls.{run};
+ghost use Rattle.directory_c.specs.Numbers.{lent, lentTwo, capsOf, toldBy, numberIn, foundIn, leafIn, changed, changedIn, tagStart, partOf, seen, seenIn};
 use delete::answer::Deleted;
 use frames::frame;
 use frames::frame::Caps;
@@ -50,7 +45,7 @@ pub struct DirectoryPart {
 }
 
 fn found(a: Found) -> DirectoryFound
-    ensures { λ r. ⌜ r ≡ foundOf a ⌝ }
+    ensures { λ r. ⌜ r ≡ foundIn (calls.found a) ⌝ }
 {
     match a {
         Found::Leaf(leaf, total) => DirectoryFound {
@@ -77,7 +72,7 @@ fn found(a: Found) -> DirectoryFound
 }
 
 fn facts(a: Facts) -> DirectoryLeaf
-    ensures { λ r. ⌜ r ≡ leafOf a ⌝ }
+    ensures { λ r. ⌜ r ≡ leafIn (calls.facts a) ⌝ }
 {
     match a {
         Facts::Leaf(length, total) => DirectoryLeaf {
@@ -99,7 +94,7 @@ fn facts(a: Facts) -> DirectoryLeaf
 }
 
 fn start_number(s: Started) -> u32
-    ensures { λ r. ⌜ r ≡ startNumber s ⌝ }
+    ensures { λ r. ⌜ r ≡ numberIn (calls.started s) ⌝ }
 {
     match s {
         Started::Done => 0,
@@ -117,7 +112,7 @@ pub extern "C" fn directory_start(
     c4: u32,
     c5: u32,
 ) -> u32
-    ensures { λ r. ⌜ started r (now (words .exit)) (now (keys .exit)) ≡ startedOf (startOf (now (words .entry)) (now (keys .entry)) (capsOf c1 c2 c3 c4 c5)) ⌝ }
+    ensures { λ r. ⌜ seen r (now (words .exit)) (now (keys .exit)) [] ≡ seenIn numberIn (run (calls.start (capsOf c1 c2 c3 c4 c5)) (lentTwo (now (words .entry)) (now (keys .entry)))) ⌝ }
 {
     let c = Caps {
         c1: c1,
@@ -131,42 +126,42 @@ pub extern "C" fn directory_start(
 
 #[no_mangle]
 pub extern "C" fn directory_search(words: &[u32], keys: &[u8], tag: &[u8]) -> DirectoryFound
-    ensures { λ r. ⌜ r ≡ foundOf (searchOf (now (words .entry)) (now (keys .entry)) (now (tag .entry))) ⌝ }
+    ensures { λ r. ⌜ r ≡ foundIn (run (calls.search (now (tag .entry))) (lentTwo (now (words .entry)) (now (keys .entry))) .answer) ⌝ }
 {
     found(tree::lookup::search(words, keys, tag))
 }
 
 #[no_mangle]
 pub extern "C" fn directory_prefix_search(words: &[u32], keys: &[u8], tag: &[u8]) -> DirectoryFound
-    ensures { λ r. ⌜ r ≡ foundOf (prefixSearchOf (now (words .entry)) (now (keys .entry)) (now (tag .entry))) ⌝ }
+    ensures { λ r. ⌜ r ≡ foundIn (run (calls.prefix-search (now (tag .entry))) (lentTwo (now (words .entry)) (now (keys .entry))) .answer) ⌝ }
 {
     found(tree::lookup::prefix_search(words, keys, tag))
 }
 
 #[no_mangle]
 pub extern "C" fn directory_minimum(words: &[u32], keys: &[u8]) -> DirectoryFound
-    ensures { λ r. ⌜ r ≡ foundOf (minimumOf (now (words .entry)) (now (keys .entry))) ⌝ }
+    ensures { λ r. ⌜ r ≡ foundIn (run calls.minimum (lentTwo (now (words .entry)) (now (keys .entry))) .answer) ⌝ }
 {
     found(tree::minmax::minimum(words, keys))
 }
 
 #[no_mangle]
 pub extern "C" fn directory_maximum(words: &[u32], keys: &[u8]) -> DirectoryFound
-    ensures { λ r. ⌜ r ≡ foundOf (maximumOf (now (words .entry)) (now (keys .entry))) ⌝ }
+    ensures { λ r. ⌜ r ≡ foundIn (run calls.maximum (lentTwo (now (words .entry)) (now (keys .entry))) .answer) ⌝ }
 {
     found(tree::minmax::maximum(words, keys))
 }
 
 #[no_mangle]
 pub extern "C" fn directory_next_leaf(words: &[u32], keys: &[u8], leaf: u32) -> DirectoryFound
-    ensures { λ r. ⌜ r ≡ foundOf (nextLeafOf (now (words .entry)) (now (keys .entry)) leaf) ⌝ }
+    ensures { λ r. ⌜ r ≡ foundIn (run (calls.next-leaf leaf) (lentTwo (now (words .entry)) (now (keys .entry))) .answer) ⌝ }
 {
     found(leaves::next_leaf(words, keys, leaf))
 }
 
 #[no_mangle]
 pub extern "C" fn directory_leaf_facts(words: &[u32], keys: &[u8], leaf: u32) -> DirectoryLeaf
-    ensures { λ r. ⌜ r ≡ leafOf (factsOf (now (words .entry)) (now (keys .entry)) leaf) ⌝ }
+    ensures { λ r. ⌜ r ≡ leafIn (run (calls.leaf-facts leaf) (lentTwo (now (words .entry)) (now (keys .entry))) .answer) ⌝ }
 {
     facts(leaves::leaf_facts(words, keys, leaf))
 }
@@ -184,7 +179,7 @@ fn tag_start(words: &[u32], keys: &[u8], leaf: u32) -> u64
 
 #[no_mangle]
 pub extern "C" fn directory_leaf_tag(words: &[u32], keys: &[u8], leaf: u32) -> DirectoryPart
-    ensures { λ r. ⌜ r ≡ partOf (now (words .entry)) (now (keys .entry)) leaf ⌝ }
+    ensures { λ r. ⌜ r ≡ partOf (now (words .entry)) (now (keys .entry)) leaf (toldBy (run (calls.leaf-tag leaf) (lentTwo (now (words .entry)) (now (keys .entry))) .answer) .tag) ⌝ }
 {
     let tag = leaves::leaf_tag(words, keys, leaf);
     let n = tag.len();
@@ -201,7 +196,7 @@ pub extern "C" fn directory_leaf_tag(words: &[u32], keys: &[u8], leaf: u32) -> D
 }
 
 fn check_number(c: Checked) -> u32
-    ensures { λ r. ⌜ r ≡ numberOf c ⌝ }
+    ensures { λ r. ⌜ r ≡ numberIn (calls.checked c) ⌝ }
 {
     match c {
         Checked::Sound => 0,
@@ -212,13 +207,13 @@ fn check_number(c: Checked) -> u32
 
 #[no_mangle]
 pub extern "C" fn directory_check(words: &[u32], keys: &[u8], scratch: &mut [u8]) -> u32
-    ensures { λ r. ⌜ checked r (now (scratch .exit)) ≡ checkedOf (checkOf (now (words .entry)) (now (keys .entry)) (now (scratch .entry))) ⌝ }
+    ensures { λ r. ⌜ seen r (now (words .entry)) (now (keys .entry)) (now (scratch .exit)) ≡ seenIn numberIn (run calls.check (lent (now (words .entry)) (now (keys .entry)) (now (scratch .entry)))) ⌝ }
 {
     check_number(whole::check::check(words, keys, scratch))
 }
 
 fn after_found(a: After) -> DirectoryFound
-    ensures { λ r. ⌜ r ≡ afterFound a ⌝ }
+    ensures { λ r. ⌜ r ≡ foundIn (calls.after a) ⌝ }
 {
     match a {
         After::Leaf(leaf, total) => DirectoryFound {
@@ -251,13 +246,13 @@ pub extern "C" fn directory_first_at_or_after(
     scratch: &mut [u8],
     tag: &[u8],
 ) -> DirectoryFound
-    ensures { λ r. ⌜ after r (now (scratch .exit)) ≡ afterFoundOf (afterOf (now (words .entry)) (now (keys .entry)) (now (scratch .entry)) (now (tag .entry))) ⌝ }
+    ensures { λ r. ⌜ seen r (now (words .entry)) (now (keys .entry)) (now (scratch .exit)) ≡ seenIn foundIn (run (calls.first-at-or-after (now (tag .entry))) (lent (now (words .entry)) (now (keys .entry)) (now (scratch .entry)))) ⌝ }
 {
     after_found(range::first_at_or_after(scratch, words, keys, tag))
 }
 
 fn changed(number: u32, total: u64) -> DirectoryChanged
-    ensures { λ r. ⌜ r ≡ change number total ⌝ }
+    ensures { λ r. ⌜ r ≡ changed number total ⌝ }
 {
     DirectoryChanged {
         number: number,
@@ -266,7 +261,7 @@ fn changed(number: u32, total: u64) -> DirectoryChanged
 }
 
 fn insert_change(a: Inserted) -> DirectoryChanged
-    ensures { λ r. ⌜ r ≡ insertChange a ⌝ }
+    ensures { λ r. ⌜ r ≡ changedIn (calls.inserted a) ⌝ }
 {
     match a {
         Inserted::New => changed(0, 0),
@@ -288,13 +283,13 @@ pub extern "C" fn directory_insert(
     tag: &[u8],
     total: u64,
 ) -> DirectoryChanged
-    ensures { λ r. ⌜ written r (now (words .exit)) (now (keys .exit)) (now (scratch .exit)) ≡ insertWritten (insertOf (now (words .entry)) (now (keys .entry)) (now (scratch .entry)) (now (tag .entry)) total) ⌝ }
+    ensures { λ r. ⌜ seen r (now (words .exit)) (now (keys .exit)) (now (scratch .exit)) ≡ seenIn changedIn (run (calls.insert (now (tag .entry)) total) (lent (now (words .entry)) (now (keys .entry)) (now (scratch .entry)))) ⌝ }
 {
     insert_change(insert::insert::insert(words, keys, scratch, tag, total))
 }
 
 fn delete_change(a: Deleted) -> DirectoryChanged
-    ensures { λ r. ⌜ r ≡ deleteChange a ⌝ }
+    ensures { λ r. ⌜ r ≡ changedIn (calls.deleted a) ⌝ }
 {
     match a {
         Deleted::Gone(total) => changed(0, total),
@@ -311,7 +306,7 @@ pub extern "C" fn directory_delete(
     scratch: &mut [u8],
     tag: &[u8],
 ) -> DirectoryChanged
-    ensures { λ r. ⌜ written r (now (words .exit)) (now (keys .exit)) (now (scratch .exit)) ≡ deleteWritten (deleteOf (now (words .entry)) (now (keys .entry)) (now (scratch .entry)) (now (tag .entry))) ⌝ }
+    ensures { λ r. ⌜ seen r (now (words .exit)) (now (keys .exit)) (now (scratch .exit)) ≡ seenIn changedIn (run (calls.delete (now (tag .entry))) (lent (now (words .entry)) (now (keys .entry)) (now (scratch .entry)))) ⌝ }
 {
     delete_change(delete::delete::delete(words, keys, scratch, tag))
 }

@@ -35,7 +35,7 @@ sortedReplace k body n byte ref = set body (k + placeOf body n byte) ref
 unfoldable pub slotAdd : List ℕ → ℕ → ℕ → List ℕ
 slotAdd body byte ref = set (set body byte (first (is 0) (between body 256 304) + 1)) (256 + first (is 0) (between body 256 304)) ref
 
--- a child less leaves a hole
+-- a child less leaves a hole; behind 256 slot numbers, slot s, counted from 1, is place 255 + s
 unfoldable pub slotRemove : List ℕ → ℕ → List ℕ
 slotRemove body byte = set (set body byte 0) (255 + getD body byte 0) 0
 

@@ -8,7 +8,7 @@ use Rattle.frames.specs.Kind.{bodyWords}
 use Rattle.frames.specs.declared.form.Form.{Form}
 use Rattle.frames.specs.declared.form.Sizes.{Sizes}
 
--- number, words of the stored prefix, words of the count below, longest tag
+-- number, words of the stored prefix, words for a count of the tags below (form 1 has none), longest tag
 abbrev pub forms : List Form
 forms = record { number = 1; prefix = 8; counts = 0; limit = 64 } ∷ []
 
@@ -23,7 +23,7 @@ formKnown number = leb 1 number && leb number (length forms)
 unfoldable pub formOf : ℕ → Form
 formOf number = getD forms (number - 1) noForm
 
--- kind, child count and length; the count below; the stored prefix
+-- kind, child count and length; the count of the tags below, where the form has one; the stored prefix
 abbrev pub header : Form → ℕ
 header form = 3 + form .counts + form .prefix
 

@@ -7,7 +7,11 @@ use native.Mathlib.Decide.{ℕ-discrete}
 use native.Mathlib.Omega.{arith}
 use lib.ListN.{length}
 use Rattle.art.specs.Members.{In, Different}
-use Rattle.art.specs.Chain.{without}
+
+-- the list without n
+abbrev without : ℕ → List ℕ → List ℕ
+without n [] = []
+without n (m ∷ l) = ite (ℕ-discrete n m) (without n l) (m ∷ without n l)
 
 -- where n is not in the list nothing is left out
 without-all : (n : ℕ) (l : List ℕ) → ¬ In n l → length l ≤ length (without n l)

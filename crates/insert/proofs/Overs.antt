@@ -18,7 +18,7 @@ use Rattle.records.specs.View.{Held}
 use Rattle.art.specs.Listings.{lookup}
 use Rattle.art.specs.Trees.{Tree, contents}
 use Rattle.art.specs.Puts.{alter}
-use Rattle.art.specs.Deletes.{held, change}
+use Rattle.art.specs.Deletes.{held, change, stay}
 use Rattle.art.specs.Verdicts.{Verdict, known, judge-tree}
 use Rattle.art.specs.Facts.{insert, insert-tree, height}
 use Rattle.art.specs.Stores.{Place, leaf-place, leaf-cell, Store, write, apply, root, store}
@@ -33,7 +33,7 @@ use Rattle.art.proofs.Deletes.{change-held, change-sane}
 use Rattle.art.proofs.Counts.{change-count}
 use Rattle.art.proofs.Leaves.{change-leaves}
 use Rattle.art.proofs.InsertPoints.{point-judges}
-use Rattle.art.proofs.AlterPoints.{stay, alter-makes, alter-moves, point-finds}
+use Rattle.art.proofs.AlterPoints.{alter-makes, alter-moves, point-finds}
 use Rattle.art.proofs.Calls.{call-once}
 use Rattle.view.specs.Links.{linksOf}
 use Rattle.pools.specs.Pool.{lowestFree}

@@ -14,10 +14,9 @@ use Rattle.art.specs.Tags.{Tag}
 use Rattle.art.specs.Trees.{Tree, leaf}
 use Rattle.art.specs.Changes.{Plan, grow}
 use Rattle.art.specs.Facts.{height}
-use Rattle.art.specs.Deletes.{change}
+use Rattle.art.specs.Deletes.{change, stay}
 use Rattle.art.specs.Stores.{inner-place, home-place, Store, root, store, Used, Fresh}
 use Rattle.art.specs.Points.{Point, holds, clashes, into, fork, broken, point, cell-refs}
-use Rattle.art.proofs.AlterPoints.{stay}
 use Rattle.insert.specs.Meets.{newTotal}
 
 -- the kind is the smallest from one on that may have a free record: every record of those between is in use

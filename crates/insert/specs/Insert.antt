@@ -1,4 +1,4 @@
--- Insert: 2, frame 6, 7, whole check 6, then overwrites if held, else 3, 4, 5. A refusal changes no word and no key byte.
+-- Insert: first the tag's length, then the check with its frame and scratch; on a sound block a held tag gets the new total, and a new one its leaf, unless it clashes or lacks room. A refusal leaves words and key bytes as they are.
 use Prim.Native.Nat.{ℕ, _/_}
 use mathlib.Core.List.{List}
 use mathlib.Core.Path.{_≡_}

@@ -6,9 +6,9 @@ use lib.Dec.{eqb, ltb}
 use Rattle.lists.specs.Scan.{choose}
 use Rattle.frames.specs.Kind.{childrenOf}
 use Rattle.frames.specs.Frame.{rootWord, lastWord}
-use Rattle.frames.specs.Place.{placeAt, recordAt}
+use Rattle.frames.specs.Place.{placeAt, refOf, recordAt}
 use Rattle.frames.specs.declared.frame.Frame.{Frame}
-use Rattle.art.specs.Stores.{leaf-place}
+use Rattle.art.specs.Stores.{leaf-place, inner-place}
 use Rattle.art.specs.Chain.{leaf-ref}
 use Rattle.pools.specs.Pool.{lowestFree, freeKind}
 use Rattle.pools.specs.declared.pools.Free.{Free}
@@ -31,7 +31,7 @@ use Rattle.insert.specs.declared.plan.Plan.the-variants.{Over, New, Clas
 -- ── the record that takes the new leaf ──
 -- a full record grows into the smallest larger kind with a free record
 abbrev pub growChoice : Up → ℕ → ℕ → Free → Choice
-growChoice up ref byte (free.At k n) = At (Grow up ref (n * 8 + k) byte)
+growChoice up ref byte (free.At k n) = At (Grow up ref (refOf (inner-place k n)) byte)
 growChoice up ref byte free.Nowhere = Nowhere
 
 -- a missing child is added in place where the record has room
@@ -41,7 +41,7 @@ intoChoice f words up ref byte =
 
 -- a new branching is made in the smallest kind that has a free record
 abbrev pub forkWith : Up → (ref leaf d c : ℕ) → Free → Choice
-forkWith up ref leaf d c (free.At k n) = At (Fork up ref (n * 8 + k) leaf d c)
+forkWith up ref leaf d c (free.At k n) = At (Fork up ref (refOf (inner-place k n)) leaf d c)
 forkWith up ref leaf d c free.Nowhere = Nowhere
 
 unfoldable pub forkChoice : Frame → List ℕ → Up → (ref leaf d c : ℕ) → Choice

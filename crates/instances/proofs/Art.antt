@@ -14,7 +14,7 @@ use Rattle.art.specs.Puts.{Apart}
 use Rattle.art.specs.Trees.{Tree, leaf, inner, child, end, contents, Good}
 use Rattle.art.specs.Drawings.{one, branch, kid, done, erase, draw}
 use Rattle.art.specs.Changes.{Plan, grow}
-use Rattle.art.specs.Deletes.{held, Sane, change}
+use Rattle.art.specs.Deletes.{held, Sane, change, stay}
 use Rattle.art.specs.Orders.{least, greatest, from}
 use Rattle.art.specs.Verdicts.{free, judge-tree}
 use Rattle.art.specs.Facts as facts
@@ -24,7 +24,7 @@ use Rattle.art.specs.Walks.{walk-store, Shows}
 use Rattle.art.specs.ReadBack.{read, tree-of}
 use Rattle.art.specs.Chain.{Links, Linked, leaves-of, link-in, link-out}
 use Rattle.art.specs.Drops.{Roomy}
-use Rattle.art.specs.Calls.{OnceOf}
+use Rattle.art.specs.Calls.{call-edits, call-root, OnceOf}
 use Rattle.art.specs.Points.{via, top, holds, fork, point, point-verdict, point-held, insert-at, insert-root, delete-at, delete-root, ForkFits}
 use Rattle.art.specs.Visit.{at-start, passed, visit, and-then}
 use Rattle.art.specs.Witness.{by-number, probe}
@@ -40,11 +40,11 @@ use Rattle.art.proofs.Changes.{grow-contents, grow-good}
 use Rattle.art.proofs.Deletes.{change-held, change-sane}
 use Rattle.art.proofs.ReadBack.{read-shown, shown-once}
 use Rattle.art.proofs.InsertPoints.{point-judges, insert-makes, insert-moves}
-use Rattle.art.proofs.AlterPoints.{stay, point-finds, alter-makes}
+use Rattle.art.proofs.AlterPoints.{point-finds, alter-makes}
 use Rattle.art.proofs.FitPoints.{point-fits}
 use Rattle.art.proofs.DeletePoints.{delete-makes, delete-moves}
 use Rattle.art.proofs.Stores.{once-grow}
-use Rattle.art.proofs.Calls.{call-once}
+use Rattle.art.proofs.Calls.{call-makes, call-moves, call-once}
 use Rattle.art.proofs.Leaves.{grow-linked, cut-linked}
 use Rattle.art.proofs.Counts.{grow-count, cut-count, change-count}
 use Rattle.art.proofs.Witnesses.{root-visit, number-tells}
@@ -194,6 +194,15 @@ cut-makes = delete-makes 3 parted-tags parted-good parted-once (omega arith) sta
 cut-moves : delete-root τ stay (holds top (via 1 1 88) 2) (inner-place 1 1) ≡ some (inner-place 1 0)
 unfolding opened
 cut-moves = delete-moves 3 τ parted-tags parted-good parted-shows (omega arith) stay AX
+
+-- the same of the call: its writes, its root, and that no place stands twice
+cut-calls : apply τ (call-edits 3 τ stay (some (inner-place 1 1)) (facts.delete AX)) ≡ σ
+unfolding opened
+cut-calls = call-makes 3 (some parted-tags) parted-good parted-once (omega arith) stay (facts.delete AX) roomy
+
+cut-roots : call-root 3 τ stay (some (inner-place 1 1)) (facts.delete AX) ≡ some (inner-place 1 0)
+unfolding opened
+cut-roots = call-moves 3 (some parted-tags) parted-good parted-once (omega arith) stay (facts.delete AX)
 
 cut-once : Once long-tags []
 unfolding opened

@@ -7,14 +7,14 @@ use mathlib.Core.Option.{some}
 use native.Mathlib.Omega.{arith}
 use lib.ListN.{replicate}
 use Rattle.records.specs.View.{Held}
-use Rattle.art.specs.Tags.{Listing}
-use Rattle.art.specs.Listings.{lookup}
+use Rattle.art.specs.Tags.{Listing, exact}
+use Rattle.art.specs.Listings.{find, lookup}
 use Rattle.art.specs.Orders.{after}
 use Rattle.art.specs.Drawings.{one, branch, kid, done, draw}
 use Rattle.art.specs.Deletes.{held}
 use Rattle.tree.specs.Walk.{searchOf}
 use Rattle.tree.specs.declared.answer.Found.the-variants as found
-use Rattle.reading.specs.Answers.{Bytes}
+use Rattle.reading.specs.Answers.{Bytes, answerOf}
 use Rattle.reading.specs.Calls.{Reads}
 use Rattle.whole.specs.Sound.{Sound}
 use Rattle.whole.proofs.Samples.{two-words, two-keys, two-sound}
@@ -24,10 +24,10 @@ use Rattle.pointed.proofs.Points.{tag-bytes}
 use Rattle.insert.specs.declared.answer.Inserted.the-variants as inserted
 use Rattle.demands.specs.Calls as calls
 use Rattle.demands.specs.Calls.{Outcome, outcome, Promise, run}
-use Rattle.demands.specs.Histories.{Block, Turn, next, after-all, puts, totals, told}
+use Rattle.demands.specs.Histories.{Block, Turn, answered, next, after-all, puts, totals, told}
 use Rattle.demands.specs.Drawn.{drawing}
 use Rattle.demands.specs.Accepts.{insert, delete, turn}
-use Rattle.demands.proofs.Reading.{sound-reads}
+use Rattle.demands.proofs.Reading.{sound-reads, sound-listed}
 use Rattle.demands.proofs.Outcomes.{one-outcome, promised}
 use Rattle.demands.proofs.Refusals.{refused-same, scratch-left}
 use Rattle.demands.specs.Frames.{FrameKept}
@@ -91,6 +91,12 @@ two-reads = subst (Reads two-words two-keys) two-holds (sound-reads two-sound)
 B-found : searchOf two-words two-keys B ≡ found.Leaf 1 8
 unfolding opened
 B-found = two-reads .search B (tag-bytes B refl)
+
+-- and so answers the call, made on the block
+B-listed : answered two (record { call = calls.search B; scratch = [] }) ≡ calls.found (found.Leaf 1 8)
+unfolding opened
+B-listed =
+    sound-listed two two-sound (record { call = calls.search B; scratch = [] }) (tag-bytes B refl) ∙ ap (λ (l : Listing Held). calls.found (answerOf (find exact B l))) two-holds
 
 -- the first at or after AB is B
 AB-after : afterOf two-words two-keys (replicate 3 1) AB .result ≡ after-variants.Leaf 1 8

@@ -21,6 +21,7 @@ pub enum LeafState {
     NoLeaf,
 }
 
+// A number of no leaf in use is told from a leaf whose words are damaged: the two are refused by different numbers.
 fn leaf_state(words: &[u32], keys: &[u8], f: Frame, number: u32) -> LeafState
     requires { ⌜ FrameOf f (now words) (now keys) ⌝ }
     ensures { λ r. ⌜ r ≡ leafState f (now (words .entry)) (now (keys .entry)) number ⌝ }

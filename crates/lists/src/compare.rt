@@ -19,6 +19,7 @@ pub fn shared_bytes(s: &[u8], t: &[u8]) -> usize
     i
 }
 
+// The one cast from a byte, so that its fact is proved once.
 fn wide(b: u8) -> u32
     ensures { λ r. ⌜ r ≡ b ⌝ }
 {

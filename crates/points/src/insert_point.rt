@@ -271,6 +271,7 @@ fn step_at(
     }
 }
 
+// As in the walk: past the last inner record allowed on a path there is damage.
 fn ended(s: Step) -> Point
     ensures { λ r. ⌜ r ≡ endedOf s ⌝ }
 {

@@ -35,6 +35,7 @@ pub enum Step {
     Final(Found),
 }
 
+// There is no `min` on numbers in the language.
 fn smaller(a: usize, b: usize) -> usize
     ensures { λ r. ⌜ r ≡ min a b ⌝ }
 {
@@ -108,6 +109,7 @@ fn at_inner(
     Step::Next(child, d + 1, after)
 }
 
+// The slices of a leaf, and the answer there.
 fn leaf_at(
     words: &[u32],
     keys: &[u8],
@@ -136,6 +138,7 @@ fn leaf_at(
     )
 }
 
+// The slice of an inner record, and the step there.
 fn inner_at(
     words: &[u32],
     form: Form,
@@ -185,6 +188,7 @@ fn step_at(
     }
 }
 
+// A step that would go on past the last inner record allowed on a path ends at damage.
 fn ended(s: Step) -> Found
     ensures { λ r. ⌜ r ≡ endedOf s ⌝ }
 {

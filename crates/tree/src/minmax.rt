@@ -86,6 +86,7 @@ fn edge_step(
     }
 }
 
+// As in the walk: past the last inner record allowed on a path there is damage.
 fn edge_ended(s: EdgeStep) -> Found
     ensures { λ r. ⌜ r ≡ edgeEnded s ⌝ }
 {
@@ -113,6 +114,7 @@ pub fn edge_walk(words: &[u32], keys: &[u8], f: Frame, edge: Edge, root: u32) ->
     Found::Damaged
 }
 
+// Minimum and maximum: the frame, then no root, then the way down.
 fn edge_leaf(words: &[u32], keys: &[u8], edge: Edge) -> Found
     ensures { λ r. ⌜ r ≡ edgeLeaf (now (words .entry)) (now (keys .entry)) edge ⌝ }
 {

@@ -21,22 +21,22 @@ abbrev pub Rooted : ℕ → Option (Tree Held) → Type 0
 Rooted ref none = ref ≡ 0
 Rooted ref (some t) = ref ≡ refOf (root t)
 
--- sentence by sentence
+-- a field, or a group of them, for each thing that is asked
 pub record Sound (words keys : List ℕ) : Type 0 where
-  -- the frame fits
+  -- the trailer describes the slices
   pub fits : frameFits words keys ≡ true
-  -- every used record obeys its rule
+  -- no record in use breaks its own rule
   pub rules : (x : Place) → Used (cellOf (frame words) words keys x) → ruleAt (frame words) words keys x ≡ true
-  -- and is reached once from the root: the cells are the store of one tree, in which no place stands twice. There a branching has its whole run and a leaf only the
-  -- rest of its tag, so every tag below has every byte of each run, stored or not, and each child byte
+  -- what the records show is one tree below the root, in which no place stands twice: so each used record is met once, and none stands outside. In that tree a branching
+  -- has its whole run and a leaf only the rest of its tag: so a tag has all bytes of the runs and child bytes above it, those that no record stores too
   pub tree : Option (Tree Held)
   pub good : Sane tree
   pub rooted : Rooted (rootWord words) tree
   pub once : OnceOf tree
   pub shown : (x : Place) → cellOf (frame words) words keys x ≡ store-of tree x
-  -- free records, and free leaves' key bytes, are all 0
+  -- what is not in use is cleared: the words of a record, and a leaf's key bytes too
   pub free : (x : Place) → inPool (frame words) x ≡ true → cellOf (frame words) words keys x ≡ unused → blankAt (frame words) words keys x ≡ true
-  -- the leaf list is all leaves in byte order, both ways, first and last at its ends and 0 beyond
+  -- previous and next link the tree's leaves in their order, from the first to the last that the trailer names, and 0 ends it on either side
   pub linked : Linked (linksOf (frame words) words) 0 (leaves-of tree)
-  -- the tag count is right
+  -- the trailer counts them
   pub count : countWord words ≡ length (held tree)

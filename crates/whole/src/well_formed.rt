@@ -105,6 +105,7 @@ fn turn_at(
     Turn::Done(Visit::Ill)
 }
 
+// The visit of a record that needs no look at a row.
 fn turn_done(t: Turn) -> Visit
     ensures { λ r. ⌜ r ≡ doneOf t ⌝ }
 {
@@ -170,6 +171,7 @@ fn record_end(words: &[u32], keys: &[u8], f: Frame, row: Row, depth: usize, v: V
     Visit::Ill
 }
 
+// The record that a reference names, with all that is below it: one less is left on the path of its children, so the two functions end.
 pub fn check_record(
     marks: &mut [u8],
     words: &[u32],
@@ -191,6 +193,7 @@ pub fn check_record(
     record_end(words, keys, f, row, depth, v)
 }
 
+// A row, child by child in byte order. A loop, so that no child takes stack of its own; each goes by `check_record`.
 fn check_row(
     marks: &mut [u8],
     words: &[u32],

@@ -1,12 +1,14 @@
 -- `directory_c::directory_maximum` meets its contract: the answer of maximum, as C sees it.
 use mathlib.Core.Path.{ap, _∙_}
-use Rattle.directory_c.specs.Numbers.{foundOf}
+use Rattle.tree.specs.declared.answer.Found.{Found}
+use Rattle.demands.specs.Calls.{found}
+use Rattle.directory_c.specs.Numbers.{foundIn}
 use borrow.Author.Needs.{needs}
 use Rattle.directory_c.proofs.directory_maximum.Statement.{statement}
 use Rattle.directory_c.proofs.directory_maximum.Tie as tie
 
 returns : tie.Need-returns
-returns c = c .found .ensures ∙ ap foundOf (c .before .maximum .ensures)
+returns c = c .found .ensures ∙ ap (λ (a : Found). foundIn (found a)) (c .before .maximum .ensures)
 
 pub directory-maximum-spec : {M : Type 1} → statement M
 directory-maximum-spec = tie.close (tie.spec (λ c κs. search needs) (λ c κs. search needs) returns)

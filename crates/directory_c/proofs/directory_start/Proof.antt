@@ -1,12 +1,14 @@
 -- `directory_c::directory_start` meets its contract: the number of start's answer, and the slices as start leaves them.
 use mathlib.Core.Path.{ap}
-use Rattle.directory_c.specs.Numbers.{startedOf}
+use mathlib.Core.List.{[]}
+use Rattle.pools.specs.Start.{Out, startNumber}
+use Rattle.directory_c.specs.Numbers.{seen}
 use borrow.Author.Needs.{needs}
 use Rattle.directory_c.proofs.directory_start.Statement.{statement}
 use Rattle.directory_c.proofs.directory_start.Tie as tie
 
 returns : tie.Need-returns
-returns c = rw (c .start-number .ensures) (ap startedOf (c .before .before .before .before .before .start .ensures))
+returns c = rw (c .start-number .ensures) (ap (λ (o : Out). seen (startNumber (o .answer)) (o .words) (o .keys) []) (c .before .before .before .before .before .start .ensures))
 
 pub directory-start-spec : {M : Type 1} → statement M
 directory-start-spec =
