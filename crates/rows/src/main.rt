@@ -509,8 +509,8 @@ fn main() {
     let mut room = [0u32; 315];
     let mut i = 0;
     while i < steps::COUNT {
-        let s = step_of(steps::STEPS[i]);
-        show(&mut room, s);
+        let line = steps::line_at(i);
+        show(&mut room, step_of(line));
         i += 1;
     }
 }

@@ -1,4 +1,5 @@
 // The steps that the program runs.
+ghost use Prim.Native.Nat.{_<_};
 
 // What a step does.
 pub const NEW: u32 = 1; // a new branching of this kind: the child that stood there before, and the step's
@@ -37,10 +38,8 @@ pub struct Step {
 // A step as it is stored: the four in this order.
 pub struct Line(pub u32, pub u32, pub u8, pub u32);
 
-// How many steps there are, and the steps.
-pub const COUNT: usize = 81;
-
-pub const STEPS: [Line; COUNT] = [
+// The steps. What it costs to check a table grows faster than its length, so there is a table for each part.
+const SORTED: [Line; 31] = [
     // kind 1: bytes ascending, four at most
     Line(NEW, 1, 97, 13),
     Line(ADD, 1, 255, 21),
@@ -74,6 +73,9 @@ pub const STEPS: [Line; COUNT] = [
     Line(FROM, 0, 12, 0),
     Line(FROM, 0, 201, 0),
     Line(MOVE, 1, 0, 0),
+];
+
+const SLOTTED: [Line; 18] = [
     // kind 2 into kind 3: slots in byte order, then the new child
     Line(MOVE, 3, 0, 0),
     Line(ADD, 1, 12, 85),
@@ -94,6 +96,9 @@ pub const STEPS: [Line; COUNT] = [
     Line(ADD, 44, 40, 101),
     Line(ADD, 1, 0, 53),
     Line(MOVE, 2, 0, 0),
+];
+
+const PLACED: [Line; 20] = [
     // kind 3 into kind 4, by place
     Line(MOVE, 4, 0, 0),
     Line(ADD, 1, 0, 53),
@@ -116,6 +121,9 @@ pub const STEPS: [Line; COUNT] = [
     Line(REMOVE, 1, 150, 0),
     Line(REMOVE, 1, 0, 0),
     Line(REMOVE, 1, 200, 0),
+];
+
+const ANEW: [Line; 12] = [
     // kind 1 into kind 3
     Line(NEW, 1, 109, 13),
     Line(ADD, 2, 1, 21),
@@ -131,3 +139,45 @@ pub const STEPS: [Line; COUNT] = [
     Line(HIGHEST, 0, 0, 0),
     Line(FROM, 0, 1, 0),
 ];
+
+fn sorted(i: usize) -> Line
+    requires { ⌜ i < 31 ⌝ }
+{
+    SORTED[i]
+}
+
+fn slotted(i: usize) -> Line
+    requires { ⌜ i < 18 ⌝ }
+{
+    SLOTTED[i]
+}
+
+fn placed(i: usize) -> Line
+    requires { ⌜ i < 20 ⌝ }
+{
+    PLACED[i]
+}
+
+fn anew(i: usize) -> Line
+    requires { ⌜ i < 12 ⌝ }
+{
+    ANEW[i]
+}
+
+// How many steps there are, and the step of this number.
+pub const COUNT: usize = 81;
+
+pub fn line_at(i: usize) -> Line
+    requires { ⌜ i < 81 ⌝ }
+{
+    if i < 31 {
+        return sorted(i);
+    }
+    if i < 49 {
+        return slotted(i - 31);
+    }
+    if i < 69 {
+        return placed(i - 49);
+    }
+    anew(i - 69)
+}
