@@ -7,13 +7,7 @@ pub fn shared_bytes(s: &[u8], t: &[u8]) -> usize
     ensures { λ r. ⌜ r ≡ shared (now (s .entry)) (now (t .entry)) ⌝ }
 {
     let mut i = 0;
-    while i < s.len() {
-        if i == t.len() {
-            return i;
-        }
-        if s[i] != t[i] {
-            return i;
-        }
+    while i < s.len() && i < t.len() && s[i] == t[i] {
         i += 1;
     }
     i
@@ -31,13 +25,7 @@ pub fn shared_words(s: &[u32], t: &[u8]) -> usize
     ensures { λ r. ⌜ r ≡ shared (now (s .entry)) (now (t .entry)) ⌝ }
 {
     let mut i = 0;
-    while i < s.len() {
-        if i == t.len() {
-            return i;
-        }
-        if s[i] != wide(t[i]) {
-            return i;
-        }
+    while i < s.len() && i < t.len() && s[i] == wide(t[i]) {
         i += 1;
     }
     i

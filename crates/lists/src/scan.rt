@@ -66,10 +66,7 @@ pub fn first_equal(s: &[u32], x: u32) -> usize
     ensures { λ r. ⌜ r ≡ first (is x) (now (s .entry)) ⌝ }
 {
     let mut i = 0;
-    while i < s.len() {
-        if s[i] == x {
-            return i;
-        }
+    while i < s.len() && s[i] != x {
         i += 1;
     }
     i
@@ -80,10 +77,7 @@ pub fn first_at_least(s: &[u32], x: u32) -> usize
     ensures { λ r. ⌜ r ≡ first (atLeast x) (now (s .entry)) ⌝ }
 {
     let mut i = 0;
-    while i < s.len() {
-        if x <= s[i] {
-            return i;
-        }
+    while i < s.len() && s[i] < x {
         i += 1;
     }
     i

@@ -1,7 +1,6 @@
 -- `compare::shared_bytes` meets its contract: both agree before `i`, so what they share is `i` and what is left of them shares.
 use Prim.Native.Nat.{_-_}
 use lib.ListN.{length}
-use borrow.Author.Tests.{eq-eqb, ne-eqb}
 use Rattle.lists.proofs.Compares.{Shared, shared-start, shared-on, shared-off, shared-end, shared-out}
 use borrow.Author.Needs.{needs}
 use Rattle.lists.proofs.compare.shared_bytes.Statement.{statement}
@@ -16,14 +15,14 @@ abbrev μ-loop : tie.MeasureT-loop
 loop-holds : tie.Need-loop-holds Inv-loop μ-loop
 loop-holds c = shared-start
 
+loop-again : tie.Need-loop-again Inv-loop μ-loop
+loop-again c = shared-on (c .before .before .before .before .before .loop .inv) (c .if2 .taken) (search needs) (search needs)
+
 returns : tie.Need-returns Inv-loop μ-loop
-returns c = shared-out (c .before .before .loop .inv) (search needs)
+returns c = shared-off (c .before .before .before .before .before .loop .inv) (c .if2 .left) (search needs) (search needs)
 
 returns-2 : tie.Need-returns-2 Inv-loop μ-loop
-returns-2 c = shared-off (c .before .before .before .before .before .loop .inv) (ne-eqb _ _ (c .if2 .taken)) (search needs) (search needs)
-
-loop-again : tie.Need-loop-again Inv-loop μ-loop
-loop-again c = shared-on (c .before .before .before .before .before .loop .inv) (eq-eqb _ _ (c .if2 .left)) (search needs) (search needs)
+returns-2 c = shared-out (c .before .before .loop .inv) (search needs)
 
 returns-3 : tie.Need-returns-3 Inv-loop μ-loop
 returns-3 c = shared-end (c .before .loop .inv) (search needs)
@@ -35,11 +34,11 @@ shared-bytes-spec =
     Inv-loop
     μ-loop
     loop-holds
-    returns
     (λ c. search needs)
     (λ c. search needs)
-    returns-2
     (λ c. search needs)
     (λ c. search needs)
     loop-again
+    returns
+    returns-2
     returns-3)

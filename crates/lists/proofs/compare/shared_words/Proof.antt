@@ -2,7 +2,7 @@
 use Prim.Native.Nat.{_-_}
 use lib.ListN.{length}
 use mathlib.Core.Path.{sym, _∙_}
-use borrow.Author.Tests.{eq-eqb, ne-eqb}
+use borrow.Author.Tests.{eqb-true, eqb-false, eq-eqb, ne-eqb}
 use Rattle.lists.proofs.Compares.{Shared, shared-start, shared-on, shared-off, shared-end, shared-out}
 use borrow.Author.Needs.{needs}
 use Rattle.lists.proofs.compare.shared_words.Statement.{statement}
@@ -17,14 +17,14 @@ abbrev μ-loop : tie.MeasureT-loop
 loop-holds : tie.Need-loop-holds Inv-loop μ-loop
 loop-holds c = shared-start
 
+loop-again : tie.Need-loop-again Inv-loop μ-loop
+loop-again c = shared-on (c .before .before .before .before .before .before .loop .inv) (eq-eqb _ _ (eqb-true _ _ (c .if2 .taken) ∙ c .before .wide .ensures)) (search needs) (search needs)
+
 returns : tie.Need-returns Inv-loop μ-loop
-returns c = shared-out (c .before .before .loop .inv) (search needs)
+returns c = shared-off (c .before .before .before .before .before .before .loop .inv) (ne-eqb _ _ (λ e. eqb-false _ _ (c .if2 .left) (e ∙ sym (c .before .wide .ensures)))) (search needs) (search needs)
 
 returns-2 : tie.Need-returns-2 Inv-loop μ-loop
-returns-2 c = shared-off (c .before .before .before .before .before .before .loop .inv) (ne-eqb _ _ (λ e. c .if2 .taken (e ∙ sym (c .before .wide .ensures)))) (search needs) (search needs)
-
-loop-again : tie.Need-loop-again Inv-loop μ-loop
-loop-again c = shared-on (c .before .before .before .before .before .before .loop .inv) (eq-eqb _ _ (c .if2 .left ∙ c .before .wide .ensures)) (search needs) (search needs)
+returns-2 c = shared-out (c .before .before .loop .inv) (search needs)
 
 returns-3 : tie.Need-returns-3 Inv-loop μ-loop
 returns-3 c = shared-end (c .before .loop .inv) (search needs)
@@ -36,13 +36,13 @@ shared-words-spec =
     Inv-loop
     μ-loop
     loop-holds
-    returns
     (λ c. search needs)
     (λ c. search needs)
     (λ c. search needs)
     (λ c κs. search needs)
-    returns-2
     (λ c. search needs)
     (λ c. search needs)
     loop-again
+    returns
+    returns-2
     returns-3)

@@ -1,7 +1,7 @@
 -- `scan::first_at_least` meets its contract: the first of the whole is `i` and the first of what is left.
 use Prim.Native.Nat.{_-_}
-use lib.ListN.{length}
-use borrow.Author.Tests.{le-leb, lt-leb}
+use lib.ListN.{length, getD}
+use borrow.Author.Tests.{ltb-true, ltb-false, le-leb, lt-leb}
 use Rattle.lists.specs.Scan.{atLeast}
 use Rattle.lists.proofs.Scans.{First, first-start, first-on, first-at, first-end}
 use borrow.Author.Needs.{needs}
@@ -17,11 +17,19 @@ abbrev μ-loop : tie.MeasureT-loop
 loop-holds : tie.Need-loop-holds Inv-loop μ-loop
 loop-holds c = first-start
 
-returns : tie.Need-returns Inv-loop μ-loop
-returns c = first-at (c .before .before .before .loop .inv) (le-leb _ _ (c .if1 .taken)) (search needs)
-
 loop-again : tie.Need-loop-again Inv-loop μ-loop
-loop-again c = first-on (c .before .before .before .loop .inv) (lt-leb _ _ (c .if1 .left)) (search needs)
+loop-again c =
+    let l = c .before .before .before in
+    let x = l .before .args .x in
+    let y = getD (l .before .args .s .now) (l .loop .i) 0 in
+    first-on (l .loop .inv) (lt-leb x y (ltb-true y x (c .if1 .taken))) (search needs)
+
+returns : tie.Need-returns Inv-loop μ-loop
+returns c =
+    let l = c .before .before .before in
+    let x = l .before .args .x in
+    let y = getD (l .before .args .s .now) (l .loop .i) 0 in
+    first-at (l .loop .inv) (le-leb x y (ltb-false y x (c .if1 .left))) (search needs)
 
 returns-2 : tie.Need-returns-2 Inv-loop μ-loop
 returns-2 c = first-end (c .before .loop .inv) (search needs)
@@ -35,8 +43,8 @@ first-at-least-spec =
     loop-holds
     (λ c. search needs)
     (λ c. search needs)
-    returns
     (λ c. search needs)
     (λ c. search needs)
     loop-again
+    returns
     returns-2)

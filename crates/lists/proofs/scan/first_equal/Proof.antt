@@ -1,7 +1,7 @@
 -- `scan::first_equal` meets its contract: the first of the whole is `i` and the first of what is left.
 use Prim.Native.Nat.{_-_}
 use lib.ListN.{length}
-use borrow.Author.Tests.{eq-eqb, ne-eqb}
+use borrow.Author.Tests.{not-true, not-false}
 use Rattle.lists.specs.Scan.{is}
 use Rattle.lists.proofs.Scans.{First, first-start, first-on, first-at, first-end}
 use borrow.Author.Needs.{needs}
@@ -17,11 +17,11 @@ abbrev μ-loop : tie.MeasureT-loop
 loop-holds : tie.Need-loop-holds Inv-loop μ-loop
 loop-holds c = first-start
 
-returns : tie.Need-returns Inv-loop μ-loop
-returns c = first-at (c .before .before .before .loop .inv) (eq-eqb _ _ (c .if1 .taken)) (search needs)
-
 loop-again : tie.Need-loop-again Inv-loop μ-loop
-loop-again c = first-on (c .before .before .before .loop .inv) (ne-eqb _ _ (c .if1 .left)) (search needs)
+loop-again c = first-on (c .before .before .before .loop .inv) (not-true _ (c .if1 .taken)) (search needs)
+
+returns : tie.Need-returns Inv-loop μ-loop
+returns c = first-at (c .before .before .before .loop .inv) (not-false _ (c .if1 .left)) (search needs)
 
 returns-2 : tie.Need-returns-2 Inv-loop μ-loop
 returns-2 c = first-end (c .before .loop .inv) (search needs)
@@ -35,8 +35,8 @@ first-equal-spec =
     loop-holds
     (λ c. search needs)
     (λ c. search needs)
-    returns
     (λ c. search needs)
     (λ c. search needs)
     loop-again
+    returns
     returns-2)
