@@ -29,13 +29,11 @@ fn body_add(body: &mut [u32], kind: u32, n: usize, byte: u8, reference: u32)
     if kind <= 2 {
         let row = kind::row_of(kind);
         inner_node_sorted::sorted_add(body, row.children as usize, n, byte as u32, reference);
-        return;
-    }
-    if kind == 3 {
+    } else if kind == 3 {
         inner_node_indirect::indirect_add(body, byte as usize, reference);
-        return;
+    } else {
+        inner_node_direct::direct_set(body, byte as usize, reference);
     }
-    inner_node_direct::direct_set(body, byte as usize, reference);
 }
 
 // A child put in, into a record that has room.
@@ -58,13 +56,11 @@ fn body_remove(body: &mut [u32], kind: u32, n: usize, byte: u8)
     if kind <= 2 {
         let row = kind::row_of(kind);
         inner_node_sorted::sorted_remove(body, row.children as usize, n, byte as u32);
-        return;
-    }
-    if kind == 3 {
+    } else if kind == 3 {
         inner_node_indirect::indirect_remove(body, byte as usize);
-        return;
+    } else {
+        inner_node_direct::direct_set(body, byte as usize, 0);
     }
-    inner_node_direct::direct_set(body, byte as usize, 0);
 }
 
 // The child for a byte taken out.
@@ -87,13 +83,11 @@ fn body_replace(body: &mut [u32], kind: u32, n: usize, byte: u8, reference: u32)
     if kind <= 2 {
         let row = kind::row_of(kind);
         inner_node_sorted::sorted_replace(body, row.children as usize, n, byte as u32, reference);
-        return;
-    }
-    if kind == 3 {
+    } else if kind == 3 {
         inner_node_indirect::indirect_replace(body, byte as usize, reference);
-        return;
+    } else {
+        inner_node_direct::direct_set(body, byte as usize, reference);
     }
-    inner_node_direct::direct_set(body, byte as usize, reference);
 }
 
 // Another reference for the child of a byte.
@@ -141,13 +135,11 @@ fn body_fill(body: &mut [u32], kind: u32, places: [u32; 256])
     if kind <= 2 {
         let row = kind::row_of(kind);
         inner_node_sorted::sorted_fill(body, row.children as usize, places);
-        return;
-    }
-    if kind == 3 {
+    } else if kind == 3 {
         inner_node_indirect::indirect_fill(body, places);
-        return;
+    } else {
+        inner_node_direct::direct_fill(body, places);
     }
-    inner_node_direct::direct_fill(body, places);
 }
 
 // The words of a record of this kind with this prefix and these children, whatever stood there: a new branching, a record that has grown or shrunk.

@@ -53,11 +53,11 @@ body-add-spec =
     (λ c κs. search needs)
     (λ c. search needs)
     sorted-add-requires
+    indirect-add-requires
+    direct-set-requires
     (λ c. search needs)
     returns
-    indirect-add-requires
     (λ c. search needs)
     returns-2
-    direct-set-requires
     (λ c. search needs)
     returns-3)

@@ -60,11 +60,11 @@ body-fill-spec =
     (λ c κs. search needs)
     (λ c. search needs)
     sorted-fill-requires
+    indirect-fill-requires
+    direct-fill-requires
     (λ c. search needs)
     returns
-    indirect-fill-requires
     (λ c. search needs)
     returns-2
-    direct-fill-requires
     (λ c. search needs)
     returns-3)

@@ -53,11 +53,11 @@ body-remove-spec =
     (λ c κs. search needs)
     (λ c. search needs)
     sorted-remove-requires
+    indirect-remove-requires
+    direct-set-requires
     (λ c. search needs)
     returns
-    indirect-remove-requires
     (λ c. search needs)
     returns-2
-    direct-set-requires
     (λ c. search needs)
     returns-3)

@@ -53,11 +53,11 @@ body-replace-spec =
     (λ c κs. search needs)
     (λ c. search needs)
     sorted-replace-requires
+    indirect-replace-requires
+    direct-set-requires
     (λ c. search needs)
     returns
-    indirect-replace-requires
     (λ c. search needs)
     returns-2
-    direct-set-requires
     (λ c. search needs)
     returns-3)
