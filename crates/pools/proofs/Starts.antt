@@ -20,30 +20,32 @@ use Rattle.pools.specs.declared.start.Started.the-variants.{Done, Refuse
 use Rattle.lists.proofs.Pieces.{zeros-then}
 
 -- it lets only small capacities pass, and slices with room for the trailer
-pub starts-small : (form : Form) (c : Caps) (n k : ℕ) → startFits form c n k ≡ true → SmallCaps c × (16 ≤ n)
+pub starts-small : (form : Form) (c : Caps) (n k : ℕ) {r : Bool} → r ≡ startFits form c n k → r ≡ true → SmallCaps c × (16 ≤ n)
 unfolding startFits
-starts-small form c n k e =
+starts-small form c n k e t =
     let b = backsOf (sizesOf form) c .b1 in
-    let p = both (capsSmall c) (eqb n (b + 16) && eqb k (c .c5 * form .limit)) e in
+    let p = both (capsSmall c) (eqb n (b + 16) && eqb k (c .c5 * form .limit)) (sym e ∙ t) in
     let q = both (eqb n (b + 16)) (eqb k (c .c5 * form .limit)) (p .1) in
     (caps-small c (p .0), omega (arith, eqb-true n (b + 16) (q .0)))
 
-module _ (words keys : List ℕ) (c : Caps) where
-  abbrev fits : Bool
-  fits = startFits (formOf 1) c (length words) (length keys)
-
+module _ (words keys : List ℕ) (c : Caps) {form : Form} (f : form ≡ formOf 1) {r : Bool} (test : r ≡ startFits form c (length words) (length keys)) where
   abbrev done : Out
   done = out Done (replicate (length words - 16) 0 ++ trailerWords (formOf 1) c) (replicate (length keys) 0)
 
+  tested : r ≡ startFits (formOf 1) c (length words) (length keys)
+  tested = test ∙ ap (λ (x : Form). startFits x c (length words) (length keys)) f
+
   -- all cleared, and the trailer laid over the last 16 words
-  pub start-done : fits ≡ true → (w t k : List ℕ) → w ≡ replicate (length words) 0 → t ≡ trailerWords (formOf 1) c → k ≡ replicate (length keys) 0
+  pub start-done : r ≡ true → (w t k : List ℕ) {u : List ℕ} → w ≡ replicate (length words) 0 → t ≡ u → u ≡ trailerWords form c → k ≡ replicate (length keys) 0
       → out Done (splice w (length words - 16) (length words) t) k ≡ startOf words keys c
   unfolding startOf
-  start-done e w t k a b d =
+  start-done e w t k a b g d =
+      let laid = zeros-then (length words - 16) (length words) t (omega arith)
+      ∙ ap (λ (x : List ℕ). replicate (length words - 16) 0 ++ x) (b ∙ g ∙ ap (λ (x : Form). trailerWords x c) f) in
       ap₂ (λ (x y : List ℕ). out Done (splice x (length words - 16) (length words) t) y) a d
-      ∙ ap (λ (x : List ℕ). out Done x (replicate (length keys) 0)) (zeros-then (length words - 16) (length words) t (omega arith) ∙ ap (λ (x : List ℕ). replicate (length words - 16) 0 ++ x) b)
-      ∙ sym (ap (λ (v : Bool). choose v done (out Refused words keys)) e)
+      ∙ ap (λ (x : List ℕ). out Done x (replicate (length keys) 0)) laid
+      ∙ sym (ap (λ (v : Bool). choose v done (out Refused words keys)) (sym tested ∙ e))
 
-  pub start-refused : fits ≡ false → out Refused words keys ≡ startOf words keys c
+  pub start-refused : r ≡ false → out Refused words keys ≡ startOf words keys c
   unfolding startOf
-  start-refused e = sym (ap (λ (v : Bool). choose v done (out Refused words keys)) e)
+  start-refused e = sym (ap (λ (v : Bool). choose v done (out Refused words keys)) (sym tested ∙ e))

@@ -33,10 +33,10 @@ fn set_link(
 {
     if reference == 0 {
         set_trailer(words, edge, value);
-        return;
+    } else {
+        let at = frame::start_at(f, reference) + side;
+        words[at] = value;
     }
-    let at = frame::start_at(f, reference) + side;
-    words[at] = value;
 }
 
 // What comes after the leaf that `before` names, or first of all where that is 0.

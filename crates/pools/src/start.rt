@@ -66,7 +66,8 @@ pub fn start(words: &mut [u32], keys: &mut [u8], c: Caps) -> Started
         edit::clear(words);
         edit::clear_bytes(keys);
         edit::copy(&mut words[a..n], &t);
-        return Started::Done;
+        Started::Done
+    } else {
+        Started::Refused
     }
-    Started::Refused
 }

@@ -44,11 +44,11 @@ set-link-spec =
     tie.close
     (tie.spec
     set-trailer-requires
-    (λ c. search needs)
-    returns
     start-at-requires
     add-at
     mul-words
     slice-write-words
+    (λ c. search needs)
+    returns
     (λ c. search needs)
     returns-2)

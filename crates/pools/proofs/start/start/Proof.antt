@@ -1,13 +1,13 @@
 -- `start::start` meets its contract: nothing is written before the test; then all is cleared, and the trailer laid over the last 16 words.
 use Prim.Native.Nat.{ℕ}
-use mathlib.Core.Path.{refl, sym, ap, _∙_}
+use mathlib.Core.Path.{refl, ap}
 use native.Mathlib.Omega.{arith}
 use lib.ListN.{length, length-replicate, length-take, length-drop}
 use borrow.Author.Needs.{needs}
 use Rattle.lists.specs.Part.{splice}
 use Rattle.frames.specs.Form.{formKnown}
 use Rattle.frames.proofs.FormTable.{known-sizes}
-use Rattle.pools.specs.Start.{startFits, trailerWords}
+use Rattle.pools.specs.Start.{trailerWords}
 use Rattle.pools.proofs.Starts.{starts-small, start-done, start-refused}
 use Rattle.pools.proofs.start.start.Statement.{statement}
 use Rattle.pools.proofs.start.start.Tie as tie
@@ -22,10 +22,10 @@ start-fits-requires c κs = known-sizes 1 refl _ (c .form-of .ensures) _ refl
 
 trailer-words-requires : tie.Need-trailer-words-requires
 unfolding formKnown
-trailer-words-requires c κs = (known-sizes 1 refl _ (c .before .before .form-of .ensures) _ refl, starts-small _ _ _ _ (sym (c .before .start-fits .ensures) ∙ c .if1 .taken) .0)
+trailer-words-requires c κs = (known-sizes 1 refl _ (c .before .before .form-of .ensures) _ refl, starts-small _ _ _ _ (c .before .start-fits .ensures) (c .if1 .taken) .0)
 
 sub-a : tie.Need-sub-a
-sub-a c = starts-small _ _ _ _ (sym (c .before .before .start-fits .ensures) ∙ c .before .if1 .taken) .1
+sub-a c = starts-small _ _ _ _ (c .before .before .start-fits .ensures) (c .before .if1 .taken) .1
 
 copy-requires : tie.Need-copy-requires
 unfolding trailerWords
@@ -35,7 +35,7 @@ copy-requires c κs =
     let b11 = b10 .before in
     let b12 = b11 .before in
     let s = b12 .before .before .before .before in
-    simp (length-take, length-drop) (omega (arith, ap length (b8 .clear .ensures), length-replicate {A = ℕ} (length (s .args .words .now)) 0, ap length (b10 .trailer-words .ensures), starts-small _ _ _ _ (sym (b12 .start-fits .ensures) ∙ b11 .if1 .taken) .1))
+    simp (length-take, length-drop) (omega (arith, ap length (b8 .clear .ensures), length-replicate {A = ℕ} (length (s .args .words .now)) 0, ap length (b10 .trailer-words .ensures), starts-small _ _ _ _ (b12 .start-fits .ensures) (b11 .if1 .taken) .1))
 
 returns : tie.Need-returns
 unfolding splice
@@ -48,17 +48,12 @@ returns c =
     let b15 = b14 .before in
     let b16 = b15 .before in
     let s = b16 .before .before .before in
-    let f = b16 .form-of .ensures in
-    let n = length (s .args .words .now) in
-    let k = length (s .args .keys .now) in
-    start-done (s .args .words .now) (s .args .keys .now) (s .args .c) (sym (b15 .start-fits .ensures ∙ ap (λ form. startFits form (s .args .c) n k) f) ∙ b14 .if1 .taken) (b11 .clear .last .0) (b2 .copy .last .0) (b7 .clear-bytes .last .0) (b11 .clear .ensures) (b2 .copy .ensures ∙ b13 .trailer-words .ensures ∙ ap (λ form. trailerWords form (s .args .c)) f) (b7 .clear-bytes .ensures)
+    start-done (s .args .words .now) (s .args .keys .now) (s .args .c) (b16 .form-of .ensures) (b15 .start-fits .ensures) (b14 .if1 .taken) (b11 .clear .last .0) (b2 .copy .last .0) (b7 .clear-bytes .last .0) (b11 .clear .ensures) (b2 .copy .ensures) (b13 .trailer-words .ensures) (b7 .clear-bytes .ensures)
 
 returns-2 : tie.Need-returns-2
 returns-2 c =
     let s = c .before .before .before .before .before in
-    let n = length (s .args .words .now) in
-    let k = length (s .args .keys .now) in
-    start-refused (s .args .words .now) (s .args .keys .now) (s .args .c) (sym (c .before .start-fits .ensures ∙ ap (λ form. startFits form (s .args .c) n k) (c .before .before .form-of .ensures)) ∙ c .if1 .left)
+    start-refused (s .args .words .now) (s .args .keys .now) (s .args .c) (c .before .before .form-of .ensures) (c .before .start-fits .ensures) (c .if1 .left)
 
 pub start-spec : {M : Type 1} → statement M
 start-spec =
