@@ -7,9 +7,11 @@ use Rattle.records.proofs.header.head_ok.Tie as tie
 returns : tie.Need-returns
 unfolding headOk
 returns c =
-    let b9 = c .before .before .before .before .before .before .before .before .before in
+    let b4 = c .before .before .before .before in
+    let b7 = b4 .before .before .before in
+    let b9 = b7 .before .before in
     let b11 = b9 .before .before in
-    rw (← (b11 .stored-len .ensures), ← (b9 .stored-of .ensures)) (cc)
+    rw (b4 .all-at-most2 .ensures, b7 .all-at-most .ensures, ← (b11 .stored-len .ensures), ← (b9 .stored-of .ensures))
 
 pub head-ok-spec : {M : Type 1} → statement M
 head-ok-spec =
