@@ -79,16 +79,16 @@ module _ (p : Prefix) (tag : List ℕ) (depth : ℕ) where
           let off : agrees ≡ false = lt-leb (capped (p .full .0)) (agreed p tag depth) (omega (arith, counted)) in
           ap Off counted ∙ match-by (ap (λ (b : Bool). b && room) off) ∙ ap (matchOf p tag depth) (sym e)
 
-      pub match-short : length tag ≤ depth + p .full .0 → Off j ≡ matchOf p tag depth behavior
+      pub match-short : length tag - depth ≤ p .full .0 → Off j ≡ matchOf p tag depth behavior
       match-short h =
-          let off : room ≡ false = le-ltb (depth + p .full .0) (length tag) h in
+          let off : room ≡ false = le-ltb (depth + p .full .0) (length tag) (omega arith) in
           ap Off counted ∙ match-by (ap (λ (b : Bool). agrees && b) off ∙ and-false agrees) ∙ ap (matchOf p tag depth) (sym e)
 
-      pub match-on : {after : PrefixMatchBehavior} → k ≤ j → depth + p .full .0 < length tag → after ≡ afterwards (p .full .0)
+      pub match-on : {after : PrefixMatchBehavior} → k ≤ j → p .full .0 < length tag - depth → after ≡ afterwards (p .full .0)
           → On (depth + p .full .0) after ≡ matchOf p tag depth behavior
       match-on h r a =
           let on : agrees ≡ true = le-leb (capped (p .full .0)) (agreed p tag depth) (omega (arith, counted)) in
-          ap (On (depth + p .full .0)) a ∙ match-by (and-both on (lt-ltb (depth + p .full .0) (length tag) r)) ∙ ap (matchOf p tag depth) (sym e)
+          ap (On (depth + p .full .0)) a ∙ match-by (and-both on (lt-ltb (depth + p .full .0) (length tag) (omega arith))) ∙ ap (matchOf p tag depth) (sym e)
 
   -- ---- what an answer says
   -- past a prefix the tag has one byte more

@@ -16,8 +16,7 @@ returns-2 c =
     let w = c .before in
     let m = w .before .before .before .before .before .before in
     let s = m .before .before .before .before .before .args in
-    match-differs (s .p) (s .tag .now) (s .depth) (m .before .enum-told2 .given .1) (w .shared-words .ensures) (m .stored-len .ensures)
-    (omega arith)
+    match-differs (s .p) (s .tag .now) (s .depth) (m .before .enum-told2 .given .1) (w .shared-words .ensures) (m .stored-len .ensures) (c .if1 .taken)
 
 returns-3 : tie.Need-returns-3
 returns-3 c =
@@ -25,7 +24,7 @@ returns-3 c =
     let m = w .before .before .before .before .before .before in
     let s = m .before .before .before .before .before .args in
     match-short (s .p) (s .tag .now) (s .depth) (m .before .enum-told2 .given .1) (w .shared-words .ensures) (m .stored-len .ensures)
-    (omega arith)
+    (omega (arith, c .if2 .taken))
 
 returns-4 : tie.Need-returns-4
 returns-4 c =
@@ -33,7 +32,7 @@ returns-4 c =
     let m = w .before .before .before .before .before .before in
     let s = m .before .before .before .before .before .args in
     match-on (s .p) (s .tag .now) (s .depth) (m .before .enum-told2 .given .1) (w .shared-words .ensures) (m .stored-len .ensures)
-    (omega arith) (omega arith) (skipped-on (s .p .full .0) (omega (arith, c .if3 .taken)))
+    (c .before .before .if1 .left) (c .before .if2 .left) (skipped-on (s .p .full .0) (c .if3 .taken))
 
 returns-5 : tie.Need-returns-5
 returns-5 c =
@@ -41,7 +40,7 @@ returns-5 c =
     let m = w .before .before .before .before .before .before in
     let s = m .before .before .before .before .before .args in
     match-on (s .p) (s .tag .now) (s .depth) (m .before .enum-told2 .given .1) (w .shared-words .ensures) (m .stored-len .ensures)
-    (omega arith) (omega arith) (stored-on (s .p .full .0) (omega (arith, c .if3 .left)))
+    (c .before .before .if1 .left) (c .before .if2 .left) (stored-on (s .p .full .0) (c .if3 .left))
 
 pub match-prefix-spec : {M : Type 1} → statement M
 match-prefix-spec =
