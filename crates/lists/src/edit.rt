@@ -8,10 +8,10 @@ ghost use Rattle.lists.specs.Edit.{shiftIn, shiftOut};
 pub fn clear(s: &mut [u32])
     ensures { λ _. ⌜ now (s .exit) ≡ replicate (length (now (s .entry))) 0 ⌝ }
 {
-    let mut i = 0;
-    while i < s.len() {
-        s[i] = 0;
-        i += 1;
+    let mut k = 0;
+    while k < s.len() {
+        s[k] = 0;
+        k += 1;
     }
 }
 

@@ -1,4 +1,4 @@
--- `edit::clear` meets its contract: zeros before `i`, and what is left to wipe.
+-- `edit::clear` meets its contract: zeros before `k`, and what is left to wipe.
 use Prim.Native.Nat.{_-_}
 use mathlib.Core.Path.{refl}
 use native.Mathlib.Omega.{arith}
@@ -9,10 +9,10 @@ use Rattle.lists.proofs.edit.clear.Statement.{statement}
 use Rattle.lists.proofs.edit.clear.Tie as tie
 
 abbrev Inv-loop : tie.InvT-loop
-Inv-loop s₀ i₀ s i = Rest wipe (replicate (length s₀) 0) s i (length s₀)
+Inv-loop s₀ k₀ s k = Rest wipe (replicate (length s₀) 0) s k (length s₀)
 
 abbrev μ-loop : tie.MeasureT-loop
-μ-loop s₀ i₀ s i = length s₀ - i
+μ-loop s₀ k₀ s k = length s₀ - k
 
 loop-holds : tie.Need-loop-holds Inv-loop μ-loop
 loop-holds c = rest-start (omega arith) (wipe-zeros (c .args .s .now))
