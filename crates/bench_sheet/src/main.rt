@@ -104,7 +104,7 @@ fn root_kind(words: &[u32]) -> u32 {
     if words.len() < 16 {
         return 0;
     }
-    frame::trailer_word(words, 11) % 8
+    frame::trailer_word(words, frame::ROOT) % 8
 }
 
 // A line where the root's kind has changed.

@@ -23,7 +23,7 @@ fn join_at(words: &mut [u32], keys: &[u8], f: Frame, reference: u32, child: u32,
     requires { ⌜ FrameOf f (now words) (now keys) × (InnerHere f (now words) (placeAt reference) × (JoinReady f (now words) (placeAt child) × (byte < 256))) ⌝ }
     ensures { λ _. ⌜ (now (words .exit) ≡ joinedAt f (placeAt reference) (placeAt child) byte (now (words .entry))) × FrameOf f (now (words .exit)) (now (keys .entry)) ⌝ }
 {
-    if child % 8 == 5 {
+    if child % 8 == frame::LEAF {
         return;
     }
     let p = representation::prefix_of(words, keys, f, reference);
@@ -59,7 +59,7 @@ fn prune(words: &mut [u32], keys: &[u8], f: Frame, cut: Cut)
 {
     match cut {
         Cut::Root => {
-            links::set_trailer(words, 11, 0);
+            links::set_trailer(words, frame::ROOT, 0);
             return;
         }
         Cut::Stay(reference, byte) => {
@@ -82,8 +82,8 @@ pub fn apply_out(words: &mut [u32], keys: &mut [u8], f: Frame, cut: Cut, n: u32,
     requires { ⌜ FrameOf f (now words) (now keys) × TakeReady f (now words) cut n gap ⌝ }
     ensures { λ _. ⌜ (now (words .exit) ≡ goneWords f cut n gap (now (words .entry))) × (now (keys .exit) ≡ keyOut f n (now (keys .entry))) ⌝ }
 {
-    let count = frame::trailer_word(words, 14) - 1;
+    let count = frame::trailer_word(words, frame::TAGS) - 1;
     prune(words, keys, f, cut);
     leaf_node::leaf_out(words, keys, f, n, gap);
-    links::set_trailer(words, 14, count);
+    links::set_trailer(words, frame::TAGS, count);
 }

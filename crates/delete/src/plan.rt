@@ -114,7 +114,7 @@ fn gap_of(words: &[u32], keys: &[u8], f: Frame, n: u32) -> Gap
     requires { ⌜ FrameOf f (now words) (now keys) × (inPool f (leaf-place n) ≡ true) ⌝ }
     ensures { λ r. ⌜ r ≡ gapOf f (now (words .entry)) n ⌝ }
 {
-    let leaf = places::reference_to(5, n as usize);
+    let leaf = places::reference_to(frame::LEAF, n as usize);
     Gap {
         previous: places::word_at(words, keys, f, leaf, 2),
         next: places::word_at(words, keys, f, leaf, 3),
@@ -143,7 +143,7 @@ pub fn plan_delete(words: &[u32], keys: &[u8], f: Frame, tag: &[u8]) -> Plan
     requires { ⌜ FrameOf f (now words) (now keys) ⌝ }
     ensures { λ r. ⌜ r ≡ planOf f (now (words .entry)) (now (keys .entry)) (now (tag .entry)) ⌝ }
 {
-    let root = frame::trailer_word(words, 11);
+    let root = frame::trailer_word(words, frame::ROOT);
     if root == 0 {
         return Plan::Missing;
     }

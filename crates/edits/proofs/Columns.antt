@@ -1,10 +1,9 @@
--- The columns of a row, padded to so many places, and tables: how long they are.
-use Prim.Native.Nat.{ℕ, zero, suc, _-_, _≤_}
+-- The columns of a row, and tables: how long they are.
+use Prim.Native.Nat.{ℕ, zero, suc, _≤_}
 use mathlib.Core.Path.{_≡_, refl, ap, ap₂}
 use mathlib.Core.List.{List, [], _∷_}
 use native.Mathlib.Omega.{arith}
-use lib.ListN.{length, replicate, length-append, length-replicate}
-use Rattle.lists.specs.Edit.{padded}
+use lib.ListN.{length}
 use Rattle.edits.specs.Body.{tab, bytesOf, refsOf}
 use Rattle.edits.specs.Rows.{Row}
 
@@ -15,9 +14,6 @@ bytes-length (e ∷ es) = ap suc (bytes-length es)
 pub refs-length : (row : Row) → length (refsOf row) ≡ length row
 refs-length [] = refl
 refs-length (e ∷ es) = ap suc (refs-length es)
-
-pub padded-length : (k : ℕ) (l : List ℕ) → length l ≤ k → length (padded k l) ≡ k
-padded-length k l h = omega (arith, length-append l (replicate (k - length l) 0), length-replicate {A = ℕ} (k - length l) 0)
 
 pub tab-as : (m b : ℕ) (g h : ℕ → ℕ) → ((i : ℕ) → b ≤ i → g i ≡ h i) → tab m b g ≡ tab m b h
 tab-as zero b g h e = refl

@@ -12,11 +12,12 @@ use borrow.Author.Tests.{eqb-true, eqb-false, eq-eqb, ne-eqb, lt-ltb, ltb-true}
 use Rattle.lists.specs.Scan.{choose, nonzero, all, count}
 use Rattle.lists.proofs.Scans.{Count, count-start, count-on, count-off}
 use Rattle.lists.proofs.Tests.{both, and-both}
+use Rattle.lists.proofs.Edits.{padded-length}
 use Rattle.records.specs.Row.{filled, refFor}
 use Rattle.records.proofs.Rows.{filled-skips, filled-holds}
 use Rattle.lists.specs.Edit.{padded}
 use Rattle.edits.specs.Body.{tab, rowSpread, bytesOf, refsOf, slotFor, sortedBody, slotBody, sortedPut, slotPut}
-use Rattle.edits.proofs.Columns.{bytes-length, refs-length, padded-length, tab-as, tab-length}
+use Rattle.edits.proofs.Columns.{bytes-length, refs-length, tab-as, tab-length}
 
 abbrev Pairs : Type 0
 Pairs = List (ℕ × ℕ)

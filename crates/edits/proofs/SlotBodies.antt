@@ -14,6 +14,7 @@ use Rattle.lists.specs.Scan.{choose, is, atMost, nonzero, all, first, count}
 use Rattle.lists.specs.Part.{between}
 use Rattle.lists.proofs.Tests.{and-both, all-at, all-by, all-set, first-le, first-passes, first-none, count-append, count-all, count-none}
 use Rattle.lists.proofs.Parts.{between-length, between-at, between-middle, between-set-before, between-set-after, between-set-in}
+use Rattle.lists.proofs.Edits.{padded-length}
 use Rattle.frames.specs.Kind.{kindRow}
 use Rattle.records.specs.Own.{named, byslot, SlotsFit, indirectOk, bodyOk, indirectChild, BodyFits}
 use Rattle.records.specs.Row.{filled, spread, refFor, Climbs}
@@ -23,7 +24,7 @@ use Rattle.records.proofs.Rows.{spread-length, spread-at}
 use Rattle.lists.specs.Edit.{padded}
 use Rattle.edits.specs.Body.{slotAdd, slotRemove, slotReplace, tab, refsOf, slotFor, slotBody}
 use Rattle.edits.specs.Rows.{Row, rowInsert, rowRemove, rowReplace}
-use Rattle.edits.proofs.Columns.{refs-length, padded-length, tab-as, tab-length}
+use Rattle.edits.proofs.Columns.{refs-length, tab-as, tab-length}
 use Rattle.edits.proofs.RowChanges.{table-insert, table-remove, table-replace}
 use Rattle.edits.proofs.Shown.{Indirect}
 use Rattle.edits.proofs.SortedBodies.{refs-nonzero}

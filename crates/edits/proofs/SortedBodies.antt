@@ -15,11 +15,12 @@ use Rattle.lists.specs.Part.{between}
 use Rattle.lists.specs.Edit.{pushIn, pullOut, shiftIn, shiftOut, padded}
 use Rattle.lists.proofs.Tests.{both, and-both, all-zero, zeros-all}
 use Rattle.lists.proofs.Parts.{between-length, between-whole, between-join, between-front, between-middle, between-left, between-right}
+use Rattle.lists.proofs.Edits.{padded-length}
 use Rattle.records.specs.Own.{sortedOk}
 use Rattle.records.specs.Row.{beside, sortedRow, refFor, Climbs}
 use Rattle.edits.specs.Body.{sortedAdd, sortedRemove, sortedReplace, bytesOf, refsOf, sortedBody}
 use Rattle.edits.specs.Rows.{Row, rowInsert, rowRemove, rowReplace}
-use Rattle.edits.proofs.Columns.{bytes-length, refs-length, padded-length}
+use Rattle.edits.proofs.Columns.{bytes-length, refs-length}
 use Rattle.edits.proofs.RowChanges.{refs-later, by-order, insert-length, insert-climbs, remove-length, remove-climbs, replace-length, replace-climbs}
 use Rattle.edits.proofs.Shown.{Sorted}
 

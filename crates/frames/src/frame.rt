@@ -10,6 +10,18 @@ use super::form;
 use super::form::Form;
 use super::form::Sizes;
 
+// A leaf's kind, in a reference and among the pools.
+pub const LEAF: u32 = 5;
+
+// The words of the trailer that change: the root's reference, those of the first and the last leaf, the tag count.
+pub const ROOT: usize = 11;
+
+pub const FIRST: usize = 12;
+
+pub const LAST: usize = 13;
+
+pub const TAGS: usize = 14;
+
 // The five capacities.
 pub struct Caps {
     pub c1: u32,
@@ -193,7 +205,7 @@ pub fn frame_at(words: &[u32], keys: &[u8]) -> Frame
     frame_of(&words[a..n])
 }
 
-// A word of the trailer: 11 the root, 12 and 13 the first and the last leaf, 14 the tag count.
+// A word of the trailer.
 pub fn trailer_word(words: &[u32], i: usize) -> u32
     requires { ⌜ (16 ≤ length (now words)) × (i < 16) ⌝ }
     ensures { λ r. ⌜ r ≡ getD (trailerOf (now (words .entry))) i 0 ⌝ }

@@ -24,7 +24,7 @@ fn cut_at(words: &mut [u32], keys: &[u8], f: Frame, below: u32, c: usize, t: &[u
     requires { ⌜ FrameOf f (now words) (now keys) × CutOrLeaf f (now words) (placeAt below) c (now t) d ⌝ }
     ensures { λ _. ⌜ (now (words .exit) ≡ cutAt f (placeAt below) c (now (t .entry)) d (now (words .entry))) × FrameOf f (now (words .exit)) (now (keys .entry)) ⌝ }
 {
-    if below % 8 == 5 {
+    if below % 8 == frame::LEAF {
         return;
     }
     let p = representation::prefix_of(words, keys, f, below);
@@ -77,7 +77,7 @@ fn hang(words: &mut [u32], keys: &[u8], f: Frame, tag: &[u8], site: Site, leaf: 
 {
     match site {
         Site::Root => {
-            links::set_trailer(words, 11, leaf);
+            links::set_trailer(words, frame::ROOT, leaf);
             return;
         }
         Site::Add(reference, byte) => {
@@ -109,8 +109,8 @@ pub fn apply_new(
     requires { ⌜ FrameOf f (now words) (now keys) × NewReady f (now words) (now keys) (now tag) site n gap ⌝ }
     ensures { λ _. ⌜ (now (words .exit) ≡ newWords f (now (keys .entry)) (now (tag .entry)) total site n gap (now (words .entry))) × (now (keys .exit) ≡ keyIn f n (now (tag .entry)) (now (keys .entry))) ⌝ }
 {
-    let count = frame::trailer_word(words, 14) + 1;
-    hang(words, keys, f, tag, site, n * 8 + 5);
+    let count = frame::trailer_word(words, frame::TAGS) + 1;
+    hang(words, keys, f, tag, site, n * 8 + frame::LEAF);
     leaf_node::leaf_in(words, keys, f, n, tag, gap, total);
-    links::set_trailer(words, 14, count);
+    links::set_trailer(words, frame::TAGS, count);
 }

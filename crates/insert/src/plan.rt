@@ -98,7 +98,7 @@ fn gap_at(words: &[u32], keys: &[u8], f: Frame, n: u32) -> Gap
     requires { ⌜ FrameOf f (now words) (now keys) × (inPool f (leaf-place n) ≡ true) ⌝ }
     ensures { λ r. ⌜ r ≡ gapAt f (now (words .entry)) n ⌝ }
 {
-    let next = n * 8 + 5;
+    let next = n * 8 + frame::LEAF;
     Gap {
         previous: places::word_at(words, keys, f, next, 2),
         next: next,
@@ -111,7 +111,7 @@ fn gap_end(words: &[u32], keys: &[u8], f: Frame) -> Gap
     ensures { λ r. ⌜ r ≡ gapEnd (now (words .entry)) ⌝ }
 {
     Gap {
-        previous: frame::trailer_word(words, 13),
+        previous: frame::trailer_word(words, frame::LAST),
         next: 0,
     }
 }
@@ -147,7 +147,7 @@ fn leaf_plan(words: &[u32], keys: &[u8], f: Frame, tag: &[u8], choice: Choice) -
     ensures { λ r. ⌜ r ≡ leafPlan f (now (words .entry)) (now (keys .entry)) (now (tag .entry)) choice ⌝ }
 {
     let caps = f.caps;
-    let n = lowest_free(words, keys, f, 5);
+    let n = lowest_free(words, keys, f, frame::LEAF);
     if n < caps[5] {
         return site_plan(words, keys, f, tag, n as u32, choice);
     }
@@ -179,7 +179,7 @@ pub fn plan_insert(words: &[u32], keys: &[u8], f: Frame, tag: &[u8]) -> Plan
     requires { ⌜ FrameOf f (now words) (now keys) ⌝ }
     ensures { λ r. ⌜ r ≡ planOf f (now (words .entry)) (now (keys .entry)) (now (tag .entry)) ⌝ }
 {
-    let root = frame::trailer_word(words, 11);
+    let root = frame::trailer_word(words, frame::ROOT);
     if root == 0 {
         return leaf_plan(words, keys, f, tag, Choice::At(Site::Root));
     }

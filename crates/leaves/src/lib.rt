@@ -30,7 +30,7 @@ fn leaf_state(words: &[u32], keys: &[u8], f: Frame, number: u32) -> LeafState
     if caps[5] <= number as usize {
         return LeafState::NoLeaf;
     }
-    let reference = number * 8 + 5;
+    let reference = number * 8 + frame::LEAF;
     let start = frame::start_at(f, reference);
     if words[start] == 0 {
         return LeafState::NoLeaf;
@@ -49,7 +49,7 @@ fn next_of(words: &[u32], keys: &[u8], f: Frame, next: u32) -> Found
     if next == 0 {
         return Found::Missing;
     }
-    if next % 8 != 5 {
+    if next % 8 != frame::LEAF {
         return Found::Damaged;
     }
     if !frame::in_pool(f, next) {

@@ -5,9 +5,9 @@ use mathlib.Core.List.{List, [], _∷_, _++_, append-assoc, append-nil}
 use native.Mathlib.Numerals.{add-one}
 use native.Mathlib.Decide.{decLt}
 use native.Mathlib.Omega.{arith}
-use lib.ListN.{length, getD, take, drop, set, replicate, length-set, length-append, length-drop, drop-of-length-le, List·getD-append, List·getD-eq-default}
+use lib.ListN.{length, getD, take, drop, set, replicate, length-set, length-append, length-replicate, length-drop, drop-of-length-le, List·getD-append, List·getD-eq-default}
 use lib.Seq.{take-suc-set, drop-set-lt, take-all, take-length, drop-length, length-take-le, getD-take, getD-drop, getD-append-add, getD-set-same, getD-set-other, ext-getD}
-use Rattle.lists.specs.Edit.{pushIn, pullOut, shiftIn, shiftOut}
+use Rattle.lists.specs.Edit.{pushIn, pullOut, shiftIn, shiftOut, padded}
 use Rattle.lists.proofs.Scans.{step}
 
 pub record Rest (f : List ℕ → List ℕ) (goal s : List ℕ) (i n : ℕ) : Type 0 where
@@ -51,6 +51,24 @@ wipe (x ∷ xs) = 0 ∷ wipe xs
 pub wipe-zeros : (s : List ℕ) → replicate (length s) 0 ≡ wipe s
 wipe-zeros [] = refl
 wipe-zeros (x ∷ xs) = ap (λ (l : List ℕ). 0 ∷ l) (wipe-zeros xs)
+
+-- ---- filled up with 0
+pub padded-length : (k : ℕ) (l : List ℕ) → length l ≤ k → length (padded k l) ≡ k
+padded-length k l h = omega (arith, length-append l (replicate (k - length l) 0), length-replicate {A = ℕ} (k - length l) 0)
+
+-- past the end of l there is 0 on both sides
+pub padded-at : (k : ℕ) (l : List ℕ) (i : ℕ) → getD (padded k l) i 0 ≡ getD l i 0
+padded-at k l i = go l i
+  where
+    zeros : (m j : ℕ) → getD (replicate {A = ℕ} m 0) j 0 ≡ 0
+    zeros zero j = refl
+    zeros (suc m) zero = refl
+    zeros (suc m) (suc j) = zeros m j
+
+    go : (xs : List ℕ) (j : ℕ) → getD (xs ++ replicate (k - length l) 0) j 0 ≡ getD xs j 0
+    go [] j = zeros (k - length l) j
+    go (x ∷ xs) zero = refl
+    go (x ∷ xs) (suc j) = go xs j
 
 -- ---- an element shifted in
 pub push-length : (x : ℕ) (s : List ℕ) → length (pushIn x s) ≡ length s

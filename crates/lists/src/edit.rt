@@ -2,7 +2,8 @@
 ghost use mathlib.Core.Path.{_≡_};
 ghost use Prim.Native.Nat.{_≤_, _<_};
 ghost use lib.ListN.{length, replicate};
-ghost use Rattle.lists.specs.Edit.{shiftIn, shiftOut};
+ghost use Rattle.lists.specs.Edit.{shiftIn, shiftOut, padded};
+use super::scan;
 
 // Every word 0.
 pub fn clear(s: &mut [u32])
@@ -12,17 +13,6 @@ pub fn clear(s: &mut [u32])
     while k < s.len() {
         s[k] = 0;
         k += 1;
-    }
-}
-
-// Every byte 0.
-pub fn clear_bytes(s: &mut [u8])
-    ensures { λ _. ⌜ now (s .exit) ≡ replicate (length (now (s .entry))) 0 ⌝ }
-{
-    let mut j = 0;
-    while j < s.len() {
-        s[j] = 0;
-        j += 1;
     }
 }
 
@@ -38,16 +28,24 @@ pub fn copy(to: &mut [u32], from: &[u32])
     }
 }
 
-// The bytes of `from` over those of `to`.
-pub fn copy_bytes(to: &mut [u8], from: &[u8])
-    requires { ⌜ length (now to) ≡ length (now from) ⌝ }
-    ensures { λ _. ⌜ now (to .exit) ≡ now (from .entry) ⌝ }
+// The bytes of `from`, and 0 after them.
+pub fn pad_bytes(to: &mut [u8], from: &[u8])
+    requires { ⌜ length (now from) ≤ length (now to) ⌝ }
+    ensures { λ _. ⌜ now (to .exit) ≡ padded (length (now (to .entry))) (now (from .entry)) ⌝ }
 {
     let mut j = 0;
     while j < to.len() {
-        to[j] = from[j];
+        to[j] = scan::byte_at(from, j);
         j += 1;
     }
+}
+
+// Every byte 0.
+pub fn clear_bytes(s: &mut [u8])
+    ensures { λ _. ⌜ now (s .exit) ≡ replicate (length (now (s .entry))) 0 ⌝ }
+{
+    let nothing = [0u8; 1]; // only its empty part is used
+    pad_bytes(s, &nothing[0..0]);
 }
 
 // `x` put in at `at`: the words from there on move up by one, and the last is lost.

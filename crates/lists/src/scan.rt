@@ -1,6 +1,7 @@
-// Tests of every element, the first or last place that passes, and counts. The tests look at every element, with no early return: in that form the compiler
+// Tests of every element, the first or last place that passes, counts, and a byte that may be past the end. The tests look at every element, with no early return: in that form the compiler
 // takes several elements at a time.
 ghost use mathlib.Core.Path.{_≡_};
+ghost use lib.ListN.{getD};
 ghost use Rattle.lists.specs.Scan.{is, atMost, atLeast, nonzero, all, first, past, nth, count, rises};
 
 // Each word is at most `b`.
@@ -128,4 +129,11 @@ pub fn count_nonzero(s: &[u32]) -> usize
         i += 1;
     }
     n
+}
+
+// The byte at `i`, 0 past the end.
+pub fn byte_at(s: &[u8], i: usize) -> u8
+    ensures { λ r. ⌜ r ≡ getD (now (s .entry)) i 0 ⌝ }
+{
+    if i < s.len() { s[i] } else { 0 }
 }

@@ -12,6 +12,7 @@ ghost use Rattle.tree.specs.Arrive.{InnerThere};
 ghost use Rattle.points.specs.Point.{leafPoint, leafRef, lowestOf, runBelow, runOf, forkPoint, childStep, innerStep, stepOf, endedOf, pointOf};
 use frames::form;
 use frames::form::Form;
+use frames::frame;
 use frames::frame::Frame;
 use lists::compare;
 use prefix::Prefix;
@@ -58,7 +59,7 @@ fn lowest_leaf(words: &[u32], keys: &[u8], f: Frame, reference: u32) -> u32
 {
     let low = minmax::edge_walk(words, keys, f, Edge::Low, reference);
     match low {
-        Found::Leaf(number, _) => number * 8 + 5,
+        Found::Leaf(number, _) => number * 8 + frame::LEAF,
         Found::Missing => 0,
         Found::Damaged => 0,
         Found::NoLeaf => 0,

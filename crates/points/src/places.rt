@@ -33,7 +33,7 @@ pub fn total_at(words: &[u32], keys: &[u8], f: Frame, n: u32) -> u64
     requires { ⌜ FrameOf f (now words) (now keys) × (inPool f (leaf-place n) ≡ true) ⌝ }
     ensures { λ r. ⌜ r ≡ totalOf (recordAt f (now (words .entry)) (leaf-place n)) ⌝ }
 {
-    let start = frame::start_at(f, reference_to(5, n as usize));
+    let start = frame::start_at(f, reference_to(frame::LEAF, n as usize));
     let e = start + 6;
     leaf_node::total_of(&words[start..e])
 }

@@ -1,8 +1,7 @@
-// Leaves, written: six words, the key bytes of the tag, and the list of the leaves in the order of their tags.
+// Leaves, written: six words.
 ghost use mathlib.Core.Path.{_≡_};
-ghost use Prim.Native.Nat.{_≤_, _%_, _/_, _^_};
+ghost use Prim.Native.Nat.{_%_, _/_, _^_};
 ghost use lib.ListN.{length};
-ghost use Rattle.lists.specs.Edit.{padded};
 ghost use Rattle.pools.specs.Leaf.{leafWords, setTotal};
 use lists::edit;
 
@@ -36,15 +35,4 @@ pub fn set_total(rec: &mut [u32], total: u64)
 {
     rec[4] = low_half(total);
     rec[5] = high_half(total);
-}
-
-// The tag, and 0 after it.
-pub fn write_key(key: &mut [u8], tag: &[u8])
-    requires { ⌜ length (now tag) ≤ length (now key) ⌝ }
-    ensures { λ _. ⌜ now (key .exit) ≡ padded (length (now (key .entry))) (now (tag .entry)) ⌝ }
-{
-    let n = tag.len();
-    let e = key.len();
-    edit::copy_bytes(&mut key[0..n], tag);
-    edit::clear_bytes(&mut key[n..e]);
 }

@@ -8,7 +8,7 @@ ghost use Rattle.pools.specs.Link.{LeafOrEnd, setTrailer, setLink, setNe
 use frames::frame;
 use frames::frame::Frame;
 
-// A word of the trailer: 11 the root, 12 and 13 the first and the last leaf, 14 the tag count.
+// Another value for a word of the trailer.
 pub fn set_trailer(words: &mut [u32], i: usize, value: u32)
     requires { ⌜ (16 ≤ length (now words)) × (i < 16) ⌝ }
     ensures { λ _. ⌜ now (words .exit) ≡ setTrailer i value (now (words .entry)) ⌝ }
@@ -44,7 +44,7 @@ pub fn set_next(words: &mut [u32], keys: &[u8], f: Frame, before: u32, value: u3
     requires { ⌜ FrameOf f (now words) (now keys) × LeafOrEnd f before ⌝ }
     ensures { λ _. ⌜ now (words .exit) ≡ setNext f before value (now (words .entry)) ⌝ }
 {
-    set_link(words, keys, f, before, 12, 3, value);
+    set_link(words, keys, f, before, frame::FIRST, 3, value);
 }
 
 // What comes before the leaf that `after` names, or last of all where that is 0.
@@ -52,5 +52,5 @@ pub fn set_previous(words: &mut [u32], keys: &[u8], f: Frame, after: u32, value:
     requires { ⌜ FrameOf f (now words) (now keys) × LeafOrEnd f after ⌝ }
     ensures { λ _. ⌜ now (words .exit) ≡ setPrevious f after value (now (words .entry)) ⌝ }
 {
-    set_link(words, keys, f, after, 13, 2, value);
+    set_link(words, keys, f, after, frame::LAST, 2, value);
 }

@@ -6,13 +6,7 @@ ghost use lib.ListN.{getD, length};
 ghost use Rattle.prefix.specs.Run.{eight, prefixOf, ltrimOf, splitOf, pushOf, mergeOf};
 use super::FullLen;
 use super::Prefix;
-
-// The byte at `i`, or 0 past the end.
-fn byte_at(s: &[u8], i: usize) -> u32
-    ensures { λ r. ⌜ r ≡ getD (now (s .entry)) i 0 ⌝ }
-{
-    if i < s.len() { s[i] as u32 } else { 0 }
-}
+use lists::scan;
 
 // The first eight bytes of a run, and 0 after them.
 fn first_eight(run: &[u8]) -> [u32; 8]
@@ -21,7 +15,7 @@ fn first_eight(run: &[u8]) -> [u32; 8]
     let mut stored = [0u32; 8];
     let mut i = 0;
     while i < 8 {
-        stored[i] = byte_at(run, i);
+        stored[i] = scan::byte_at(run, i) as u32;
         i += 1;
     }
     stored

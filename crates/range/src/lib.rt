@@ -70,7 +70,7 @@ fn step_at(words: &[u32], keys: &[u8], f: Frame, tag: &[u8], reference: u32) -> 
     if reference == 0 {
         return Step::Final(After::Missing);
     }
-    if reference % 8 != 5 {
+    if reference % 8 != frame::LEAF {
         return Step::Final(After::Damaged);
     }
     if !frame::in_pool(f, reference) {
@@ -104,7 +104,7 @@ pub fn after_first(words: &[u32], keys: &[u8], f: Frame, tag: &[u8]) -> After
 {
     let caps = f.caps;
     let mut left: usize = caps[5] + 1;
-    let mut reference = frame::trailer_word(words, 12);
+    let mut reference = frame::trailer_word(words, frame::FIRST);
     while 0 < left {
         let s = step_at(words, keys, f, tag, reference);
         let Step::Next(next) = s else {

@@ -227,7 +227,7 @@ fn find(words: &[u32], keys: &[u8], tag: &[u8], aim: Aim) -> Found
 {
     if frame::frame_fits(words, keys) {
         let f = frame::frame_at(words, keys);
-        let root = frame::trailer_word(words, 11);
+        let root = frame::trailer_word(words, frame::ROOT);
         if root == 0 {
             return Found::Missing;
         }

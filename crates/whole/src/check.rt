@@ -27,10 +27,10 @@ fn from_root(marks: &mut [u8], words: &[u32], keys: &[u8], f: Frame) -> Visit
     requires { ⌜ FrameOf f (now words) (now keys) ⌝ }
     ensures { λ r. ⌜ way r (now (marks .exit)) ≡ rootWay f (now (words .entry)) (now (keys .entry)) (now (marks .entry)) ⌝ }
 {
-    let root = frame::trailer_word(words, 11);
+    let root = frame::trailer_word(words, frame::ROOT);
     let s = Seen {
         prev: 0,
-        next: frame::trailer_word(words, 12),
+        next: frame::trailer_word(words, frame::FIRST),
         count: 0,
     };
     if root == 0 {
@@ -47,8 +47,8 @@ fn ended_well(words: &[u32], v: Visit) -> bool
     let Visit::Well(_, s) = v else {
         return false;
     };
-    let last = frame::trailer_word(words, 13);
-    let tags = frame::trailer_word(words, 14);
+    let last = frame::trailer_word(words, frame::LAST);
+    let tags = frame::trailer_word(words, frame::TAGS);
     (s.next == 0) & (last == s.prev) & (tags as usize == s.count)
 }
 

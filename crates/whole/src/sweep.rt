@@ -18,7 +18,7 @@ fn blank_at(words: &[u32], keys: &[u8], f: Frame, reference: u32) -> bool
     ensures { λ r. ⌜ r ≡ blankAt f (now (words .entry)) (now (keys .entry)) (placeAt reference) ⌝ }
 {
     let start = frame::start_at(f, reference);
-    if reference % 8 == 5 {
+    if reference % 8 == frame::LEAF {
         let a = (reference / 8) as usize * f.form.limit as usize;
         let e = a + f.form.limit as usize;
         let z = start + 6;
@@ -67,6 +67,6 @@ pub fn sweep(marks: &[u8], words: &[u32], keys: &[u8], f: Frame) -> bool
     let b = sweep_pool(marks, words, keys, f, 2);
     let c = sweep_pool(marks, words, keys, f, 3);
     let d = sweep_pool(marks, words, keys, f, 4);
-    let e = sweep_pool(marks, words, keys, f, 5);
+    let e = sweep_pool(marks, words, keys, f, frame::LEAF);
     a & b & c & d & e
 }

@@ -4,6 +4,7 @@ ghost use Rattle.frames.specs.Frame.{FrameOf};
 ghost use Rattle.points.specs.There.{UpThere};
 ghost use Rattle.writes.specs.Above.{linkUp};
 use super::representation;
+use frames::frame;
 use frames::frame::Frame;
 use points::insert_point::Up;
 use pools::links;
@@ -17,5 +18,5 @@ pub fn link_up(words: &mut [u32], keys: &[u8], f: Frame, up: Up, reference: u32)
         representation::replace_at(words, keys, f, above, byte, reference);
         return;
     }
-    links::set_trailer(words, 11, reference);
+    links::set_trailer(words, frame::ROOT, reference);
 }

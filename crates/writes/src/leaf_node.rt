@@ -26,7 +26,7 @@ fn leaf_start(words: &[u32], keys: &[u8], f: Frame, n: u32) -> usize
     requires { ⌜ FrameOf f (now words) (now keys) × (inPool f (leaf-place n) ≡ true) ⌝ }
     ensures { λ r. ⌜ (r ≡ startAt f (leaf-place n)) × (r + 6 ≤ length (now (words .entry))) ⌝ }
 {
-    frame::start_at(f, n * 8 + 5)
+    frame::start_at(f, n * 8 + frame::LEAF)
 }
 
 // The first of its key bytes.
@@ -54,7 +54,7 @@ fn key_in(keys: &mut [u8], words: &[u32], f: Frame, n: u32, tag: &[u8])
 {
     let start = key_start(words, keys, f, n);
     let end = start + f.form.limit as usize;
-    leaf_node::write_key(&mut keys[start..end], tag);
+    edit::pad_bytes(&mut keys[start..end], tag);
 }
 
 // Leaf `n` put in between two neighbours, with its tag and its total.
@@ -70,7 +70,7 @@ pub fn leaf_in(
     requires { ⌜ (FrameOf f (now words) (now keys) × ((inPool f (leaf-place n) ≡ true) × (length (now tag) ≤ f .form .limit))) × (LeafOrEnd f (gap .previous) × LeafOrEnd f (gap .next)) ⌝ }
     ensures { λ _. ⌜ (now (words .exit) ≡ leafIn f n (length (now (tag .entry))) (gap .previous) (gap .next) total (now (words .entry))) × (now (keys .exit) ≡ keyIn f n (now (tag .entry)) (now (keys .entry))) ⌝ }
 {
-    let reference = n * 8 + 5;
+    let reference = n * 8 + frame::LEAF;
     links::set_next(words, keys, f, gap.previous, reference);
     links::set_previous(words, keys, f, gap.next, reference);
     key_in(keys, words, f, n, tag);

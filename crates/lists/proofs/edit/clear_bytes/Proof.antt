@@ -1,41 +1,11 @@
--- `edit::clear_bytes` meets its contract: zeros before `j`, and what is left to wipe.
-use Prim.Native.Nat.{_-_}
-use mathlib.Core.Path.{refl}
-use native.Mathlib.Omega.{arith}
-use lib.ListN.{length, replicate}
-use Rattle.lists.proofs.Edits.{Rest, rest-start, rest-on, rest-end, wipe, wipe-zeros}
+-- `edit::clear_bytes` meets its contract: nothing, and 0 after it.
+use native.Mathlib.Numerals.{unary-clauses}
 use borrow.Author.Needs.{needs}
 use Rattle.lists.proofs.edit.clear_bytes.Statement.{statement}
 use Rattle.lists.proofs.edit.clear_bytes.Tie as tie
 
-abbrev Inv-loop : tie.InvT-loop
-Inv-loop s₀ j₀ s j = Rest wipe (replicate (length s₀) 0) s j (length s₀)
-
-abbrev μ-loop : tie.MeasureT-loop
-μ-loop s₀ j₀ s j = length s₀ - j
-
-loop-holds : tie.Need-loop-holds Inv-loop μ-loop
-loop-holds c = rest-start (omega arith) (wipe-zeros (c .args .s .now))
-
-loop-again : tie.Need-loop-again Inv-loop μ-loop
-loop-again c = rest-on (c .before .loop .inv) 0 (λ ys. refl) (c .loop-test .taken)
-
-same-length : tie.Need-same-length Inv-loop μ-loop
-same-length c = c .before .loop .inv .long
-
-returns : tie.Need-returns Inv-loop μ-loop
-returns c = rest-end (c .before .loop .inv) refl (search needs)
+returns : tie.Need-returns
+returns c = simp unary-clauses at (c .before .before .pad-bytes .ensures)
 
 pub clear-bytes-spec : {M : Type 1} → statement M
-clear-bytes-spec =
-    tie.close
-    (tie.spec
-    Inv-loop
-    μ-loop
-    loop-holds
-    (λ c. search needs)
-    (λ c. search needs)
-    (λ c. search needs)
-    loop-again
-    same-length
-    returns)
+clear-bytes-spec = tie.close (tie.spec (λ c. search needs) (λ c. search needs) (λ c. search needs) (λ c κs. search needs) (λ c. search needs) returns)

@@ -37,5 +37,6 @@ first-eight-spec =
     (λ c. search needs)
     (λ c. search needs)
     (λ c. search needs)
+    (λ c. search needs)
     loop-again
     returns)

@@ -9,8 +9,8 @@ use borrow.Author.Needs.{needs}
 use Rattle.writes.proofs.leaf_node.key_in.Statement.{statement}
 use Rattle.writes.proofs.leaf_node.key_in.Tie as tie
 
-write-key-requires : tie.Need-write-key-requires
-write-key-requires c κs =
+pad-bytes-requires : tie.Need-pad-bytes-requires
+pad-bytes-requires c κs =
     let b2 = c .before .before in
     let s = b2 .before .before .before .before .before in
     omega (arith, s .pre .1 .1, key-long (s .pre .0) (s .args .n) (s .pre .1 .0) (b2 .key-start .ensures .0))
@@ -22,8 +22,8 @@ returns c =
     let b5 = b2 .before .before .before in
     let s = b5 .before .before .before .before .before in
     let start = b5 .key-start .ensures .0 in
-    key-put (s .pre .0) (s .args .n) (s .pre .1 .0) start (b2 .write-key .last .0) (padded (s .args .f .form .limit) (s .args .tag .now)) (b2 .write-key .ensures ∙ ap (λ n. padded n (s .args .tag .now)) (key-long (s .pre .0) (s .args .n) (s .pre .1 .0) start))
+    key-put (s .pre .0) (s .args .n) (s .pre .1 .0) start (b2 .pad-bytes .last .0) (padded (s .args .f .form .limit) (s .args .tag .now)) (b2 .pad-bytes .ensures ∙ ap (λ n. padded n (s .args .tag .now)) (key-long (s .pre .0) (s .args .n) (s .pre .1 .0) start))
 
 pub key-in-spec : {M : Type 1} → statement M
 key-in-spec =
-    tie.close (tie.spec (λ c κs. search needs) (λ c. search needs) (λ c. search needs) (λ c. search needs) (λ c. search needs) (λ c. search needs) write-key-requires (λ c. search needs) returns)
+    tie.close (tie.spec (λ c κs. search needs) (λ c. search needs) (λ c. search needs) (λ c. search needs) (λ c. search needs) (λ c. search needs) pad-bytes-requires (λ c. search needs) returns)
