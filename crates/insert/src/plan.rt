@@ -147,7 +147,7 @@ fn leaf_plan(words: &[u32], keys: &[u8], f: Frame, tag: &[u8], choice: Choice) -
     ensures { λ r. ⌜ r ≡ leafPlan f (now (words .entry)) (now (keys .entry)) (now (tag .entry)) choice ⌝ }
 {
     let caps = f.caps;
-    let n = lowest_free(words, keys, f, frame::LEAF);
+    let n = lowest_free(words, keys, f, frame::LEAF as usize);
     if n < caps[5] {
         return site_plan(words, keys, f, tag, n as u32, choice);
     }

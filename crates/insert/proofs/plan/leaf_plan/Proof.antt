@@ -19,6 +19,7 @@ pub leaf-plan-spec : {M : Type 1} → statement M
 leaf-plan-spec =
     tie.close
     (tie.spec
+    (λ c. search needs)
     (λ c κs. search needs)
     (λ c. search needs)
     cast-site-plan
