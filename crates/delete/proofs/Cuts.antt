@@ -25,9 +25,10 @@ use Rattle.art.specs.Chain.{Links}
 use Rattle.art.specs.Points as art
 use Rattle.art.proofs.Stores.{leaf-inner, write-other, write-write, write-comm, apply-append, used-not}
 use Rattle.art.proofs.InsertPoints.{stays, relink-up-none}
+use Rattle.edits.specs.declared.representation.Change.the-variants.{Remove}
 use Rattle.points.specs.declared.insert_point.Up.{Up}
 use Rattle.points.specs.There.{InnerHere, HasChild, UpThere}
-use Rattle.writes.specs.At.{removeAt, Drops}
+use Rattle.writes.specs.At.{changeAt, Drops}
 use Rattle.writes.specs.Above.{linkUp}
 use Rattle.pointed.specs.Told.{upTold}
 use Rattle.pointed.proofs.Ups.{UpOff, UpSame, off-same, same-then, up-used, up-off, up-off-kid, up-edits, relink-is, up-root, up-rooted, inner-here, up-there, up-linked}
@@ -156,7 +157,7 @@ module _ {f : Frame} {words keys : List ℕ} {σ : Store Held} {links : Links} {
       record {
         ready = subst (λ (p : Place). HasChild f words p b) (sym place) has-child;
         state =
-            subst (λ (p : Place). After stay (removeAt f p b words)) (sym place)
+            subst (λ (p : Place). After stay (changeAt f p b Remove words)) (sym place)
             (as-state (state-remove s (ref % 8) (ref / 8) len st rs b y (w .shown) (w .child-is) three) edits root′);
       }
 

@@ -9,10 +9,11 @@ use Rattle.frames.specs.Place.{placeAt, inPool, recordAt}
 use Rattle.frames.specs.declared.frame.Frame.{Frame}
 use Rattle.records.specs.Own.{prefixAt}
 use Rattle.art.specs.Stores.{Place, leaf-place, inner-place}
+use Rattle.edits.specs.declared.representation.Change.the-variants.{Remove}
 use Rattle.pools.specs.Link.{LeafOrEnd, setTrailer}
 use Rattle.points.specs.declared.insert_point.Up.{Up}
 use Rattle.points.specs.There.{InnerHere, HasChild, UpThere}
-use Rattle.writes.specs.At.{removeAt, prefixedAt, dropAt, clearAt, Drops}
+use Rattle.writes.specs.At.{changeAt, prefixedAt, dropAt, clearAt, Drops}
 use Rattle.writes.specs.Leaf.{leafOut}
 use Rattle.writes.specs.Above.{linkUp}
 use Rattle.writes.specs.declared.leaf_node.Gap.{Gap}
@@ -37,7 +38,7 @@ shrunk f old new byte words = clearAt f old (dropAt f old new byte words)
 -- the tree without the leaf
 unfoldable pub pruned : Frame → Cut → List ℕ → List ℕ
 pruned f Root words = setTrailer 11 0 words
-pruned f (Stay ref byte) words = removeAt f (placeAt ref) byte words
+pruned f (Stay ref byte) words = changeAt f (placeAt ref) byte Remove words
 pruned f (Shrink upper old new byte) words = linkUp f upper new (shrunk f (placeAt old) (placeAt new) byte words)
 pruned f (Merge upper ref child byte) words = linkUp f upper child (merged f (placeAt ref) (placeAt child) byte words)
 

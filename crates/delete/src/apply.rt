@@ -8,6 +8,7 @@ ghost use Rattle.writes.specs.Leaf.{keyOut};
 ghost use Rattle.writes.specs.Above.{linkUp};
 ghost use Rattle.delete.specs.Apply.{joinedAt, JoinReady, merged, MergeReady, shrunk, ShrinkReady, pruned, CutReady, goneWords, TakeReady};
 use super::plan::Cut;
+use edits::representation::Change;
 use frames::frame;
 use frames::frame::Frame;
 use points::insert_point::Up;
@@ -63,7 +64,7 @@ fn prune(words: &mut [u32], keys: &[u8], f: Frame, cut: Cut)
             return;
         }
         Cut::Stay(reference, byte) => {
-            representation::remove_at(words, keys, f, reference, byte);
+            representation::change_at(words, keys, f, reference, byte, Change::Remove);
             return;
         }
         Cut::Shrink(upper, old, new, byte) => {

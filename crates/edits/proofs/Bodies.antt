@@ -1,6 +1,6 @@
 -- Every kind: a body that holds a row holds the changed row after a change; its spread is the table of its row; and a row that climbs has
 -- a body that holds it.
-use Prim.Native.Nat.{ℕ, _+_, _-_, _≤_, _<_}
+use Prim.Native.Nat.{ℕ, _≤_, _<_}
 use mathlib.Core.Path.{_≡_, refl, sym, ap, _∙_}
 use mathlib.Core.List.{List}
 use mathlib.Core.Bool.{Bool}
@@ -16,13 +16,16 @@ use Rattle.records.specs.Own.{sortedChild, indirectChild, childOf}
 use Rattle.records.specs.Row.{sortedRow, directRow, refFor, Climbs}
 use Rattle.records.proofs.Rows.{spread-length}
 use Rattle.records.proofs.RowRules.{filled-length}
-use Rattle.edits.specs.Body.{sortedAdd, sortedRemove, sortedReplace, slotAdd, slotRemove, slotReplace, bodyAdd, bodyRemove, bodyReplace, rowSpread, sortedSpread, slotSpread, bodySpread, sortedBody, slotBody, bodyOf}
-use Rattle.edits.specs.Rows.{Row, rowInsert, rowRemove, rowReplace}
+use Rattle.edits.specs.declared.representation.Change.{Change}
+use Rattle.edits.specs.declared.representation.Change.the-variants.{Add, Remove, Replace}
+use Rattle.edits.specs.Change.{refIn, countIn}
+use Rattle.edits.specs.Body.{sortedChange, slotChange, bodyChange, rowSpread, sortedSpread, slotSpread, bodySpread, sortedBody, slotBody, bodyOf}
+use Rattle.edits.specs.Rows.{Row, rowChange, Takes}
 use Rattle.edits.proofs.Columns.{tab-length}
 use Rattle.edits.proofs.Shown.{Laid, by-layout, Holds, holds-laid, laid, holds-size, holds-climbs, holds-child}
-use Rattle.edits.proofs.SortedBodies.{sorted-built, sorted-add, sorted-remove, sorted-replace}
-use Rattle.edits.proofs.TableBodies.{direct-shown, direct-built, direct-add, direct-remove, direct-replace, spread-row}
-use Rattle.edits.proofs.SlotBodies.{indirect-built, indirect-add, indirect-remove, indirect-replace}
+use Rattle.edits.proofs.SortedBodies.{sorted-built, sorted-change}
+use Rattle.edits.proofs.TableBodies.{direct-shown, direct-built, direct-change, spread-row}
+use Rattle.edits.proofs.SlotBodies.{indirect-built, indirect-change}
 
 -- by the two tests of the kind
 abbrev by : {A : Type 0} → Bool → Bool → A → A → A → A
@@ -39,41 +42,23 @@ module _ {kind : ℕ} {body : List ℕ} {n : ℕ} {row : Row} (h : Holds kind bo
   unfolding childOf
   child b l = holds-child h b l
 
-  pub holds-add : (b r : ℕ) → n < childrenOf kind → b < 256 → refFor b row ≡ 0 → 0 < r → Holds kind (bodyAdd kind body n b r) (n + 1) (rowInsert b r row)
-  unfolding bodyAdd
-  holds-add b r room low z some =
-      holds-laid kind (bodyAdd kind body n b r) (n + 1) (rowInsert b r row) (h .fits .low) (h .fits .high) (omega arith)
-      (by-layout
-      (λ t u words k. Laid t u words k body n row → by t u (sortedChild k body n b) (indirectChild body b) (getD body b 0) ≡ refFor b row → n < k
-      → Laid t u words k (by t u (sortedAdd k body n b r) (slotAdd body b r) (set body b r)) (n + 1) (rowInsert b r row))
-      (λ k s e l. sorted-add k body n row s (omega arith) size climbs b r l z low some)
-      (λ s e l. indirect-add body n row s (omega arith) b low e r l z some)
-      (λ s e l. direct-add body n row s size climbs b low e r z some)
-      kind (h .fits .low) (h .fits .high) (laid h) (child b low) room)
+  -- no more children than there are places for
+  few : (b : ℕ) (change : Change) → Takes (childrenOf kind) b change row → countIn change n ≤ childrenOf kind
+  few b (Add r) t = omega (arith, t .0, size)
+  few b Remove t = omega (arith, h .fits .few)
+  few b (Replace r) t = h .fits .few
 
-  pub holds-remove : (b : ℕ) → b < 256 → 0 < refFor b row → Holds kind (bodyRemove kind body n b) (n - 1) (rowRemove b row)
-  unfolding bodyRemove
-  holds-remove b low some =
-      holds-laid kind (bodyRemove kind body n b) (n - 1) (rowRemove b row) (h .fits .low) (h .fits .high) (omega (arith, h .fits .few))
+  pub holds-change : (b : ℕ) → b < 256 → (change : Change) → Takes (childrenOf kind) b change row → Holds kind (bodyChange kind body n b change) (countIn change n) (rowChange b change row)
+  unfolding bodyChange
+  holds-change b low change takes =
+      holds-laid kind (bodyChange kind body n b change) (countIn change n) (rowChange b change row) (h .fits .low) (h .fits .high) (few b change takes)
       (by-layout
-      (λ t u words k. Laid t u words k body n row → by t u (sortedChild k body n b) (indirectChild body b) (getD body b 0) ≡ refFor b row → n ≤ k
-      → Laid t u words k (by t u (sortedRemove k body n b) (slotRemove body b) (set body b 0)) (n - 1) (rowRemove b row))
-      (λ k s e l. sorted-remove k body n row s l size climbs b some)
-      (λ s e l. indirect-remove body n row s l b low e some)
-      (λ s e l. direct-remove body n row s size climbs b low e some)
-      kind (h .fits .low) (h .fits .high) (laid h) (child b low) (h .fits .few))
-
-  pub holds-replace : (b r : ℕ) → b < 256 → 0 < refFor b row → 0 < r → Holds kind (bodyReplace kind body n b r) n (rowReplace b r row)
-  unfolding bodyReplace
-  holds-replace b r low some new =
-      holds-laid kind (bodyReplace kind body n b r) n (rowReplace b r row) (h .fits .low) (h .fits .high) (h .fits .few)
-      (by-layout
-      (λ t u words k. Laid t u words k body n row → by t u (sortedChild k body n b) (indirectChild body b) (getD body b 0) ≡ refFor b row → n ≤ k
-      → Laid t u words k (by t u (sortedReplace k body n b r) (slotReplace body b r) (set body b r)) n (rowReplace b r row))
-      (λ k s e l. sorted-replace k body n row s l size climbs b r some new)
-      (λ s e l. indirect-replace body n row s l b low e r some new)
-      (λ s e l. direct-replace body n row s size climbs b low e r some new)
-      kind (h .fits .low) (h .fits .high) (laid h) (child b low) (h .fits .few))
+      (λ t u words k. Laid t u words k body n row → by t u (sortedChild k body n b) (indirectChild body b) (getD body b 0) ≡ refFor b row → n ≤ k → Takes k b change row
+      → Laid t u words k (by t u (sortedChange k body n b change) (slotChange body b change) (set body b (refIn change))) (countIn change n) (rowChange b change row))
+      (λ k s e l. sorted-change k body n row s l size climbs b low change)
+      (λ s e l. indirect-change body n row s l b low e change size)
+      (λ s e l. direct-change body n row s size climbs b low e change)
+      kind (h .fits .low) (h .fits .high) (laid h) (child b low) (h .fits .few) takes)
 
   -- the references by their bytes: a table with the same row
   table : (length (bodySpread kind body n) ≡ 256) × (directRow (bodySpread kind body n) ≡ row)

@@ -6,35 +6,27 @@ use lib.ListN.{length}
 use Rattle.prefix.specs.Run.{held}
 use Rattle.prefix.specs.declared.Prefix.{Prefix}
 use Rattle.frames.specs.Kind.{childrenOf}
-use Rattle.frames.specs.Place.{placeAt}
-use Rattle.records.specs.Row.{refFor, directRow, Climbs}
+use Rattle.records.specs.Row.{directRow, Climbs}
 use Rattle.records.specs.View.{Held, places, innerCell}
 use Rattle.frames.specs.declared.form.Form.{Form}
 use Rattle.art.specs.Stores.{Place, Cell, inner-cell}
-use Rattle.art.specs.Refs.{add-ref, cut-ref, re-ref}
+use Rattle.edits.specs.declared.representation.Change.{Change}
+use Rattle.edits.specs.Change.{countIn}
 use Rattle.edits.specs.Head.{setPrefix}
-use Rattle.edits.specs.Record.{addOf, removeOf, replaceOf, spreadOf, buildRec}
-use Rattle.edits.specs.Rows.{Row}
-use Rattle.edits.proofs.RowChanges.{insert-places, remove-places, replace-places}
+use Rattle.edits.specs.Record.{changeOf, spreadOf, buildRec}
+use Rattle.edits.specs.Rows.{Row, Takes, refsChange}
+use Rattle.edits.proofs.RowChanges.{change-places}
 use Rattle.edits.specs.Inner.{PrefixFits, Inner}
-use Rattle.edits.proofs.Inners.{inner-shows, add-inner, remove-inner, replace-inner, prefix-inner, build-inner, move-inner}
+use Rattle.edits.proofs.Inners.{inner-shows, change-inner, prefix-inner, build-inner, move-inner}
 
 -- the cell of this prefix
 abbrev shown : Prefix → List (ℕ × Place) → Cell Held
 shown p refs = inner-cell (p .full .0) (held p) refs
 
 module _ {form : Form} (eight : form .prefix ≡ 8) {kind : ℕ} {rec : List ℕ} {p : Prefix} {row : Row} (i : Inner form kind rec p row) where
-  pub add-cell : (b r : ℕ) → length row < childrenOf kind → b < 256 → refFor b row ≡ 0 → 0 < r
-      → innerCell form kind (addOf form kind rec b r) ≡ inner-cell (p .full .0) (held p) (add-ref b (placeAt r) (places row))
-  add-cell b r room low z some = inner-shows (add-inner eight i b r room low z some) ∙ ap (shown p) (insert-places b r row)
-
-  pub remove-cell : (b : ℕ) → 3 ≤ length row → b < 256 → 0 < refFor b row
-      → innerCell form kind (removeOf form kind rec b) ≡ inner-cell (p .full .0) (held p) (cut-ref b (places row))
-  remove-cell b three low some = inner-shows (remove-inner eight i b three low some) ∙ ap (shown p) (remove-places b row)
-
-  pub replace-cell : (b r : ℕ) → b < 256 → 0 < refFor b row → 0 < r
-      → innerCell form kind (replaceOf form kind rec b r) ≡ inner-cell (p .full .0) (held p) (re-ref (places row) b (placeAt r))
-  replace-cell b r low some new = inner-shows (replace-inner eight i b r low some new) ∙ ap (shown p) (replace-places b r row)
+  pub change-cell : (b : ℕ) → b < 256 → (change : Change) → Takes (childrenOf kind) b change row → 2 ≤ countIn change (length row)
+      → innerCell form kind (changeOf form kind rec b change) ≡ inner-cell (p .full .0) (held p) (refsChange b change (places row))
+  change-cell b low change takes two = inner-shows (change-inner eight i b low change takes two) ∙ ap (shown p) (change-places b change row)
 
   pub prefix-cell : (q : Prefix) → PrefixFits form q → innerCell form kind (setPrefix form q rec) ≡ inner-cell (q .full .0) (held q) (places row)
   prefix-cell q f = inner-shows (prefix-inner eight i q f)

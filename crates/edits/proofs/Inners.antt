@@ -5,7 +5,7 @@ use mathlib.Core.List.{List, [], _++_, append-nil}
 use mathlib.Core.Bool.{Bool, true}
 use native.Mathlib.Omega.{arith}
 use lib.ListN.{length, getD, set, replicate, length-set, length-append, length-replicate, List·getD-append}
-use lib.Seq.{ext-getD, getD-set-same, getD-set-other, set-getD}
+use lib.Seq.{ext-getD, getD-set-same, getD-set-other}
 use borrow.Author.Tests.{eq-eqb, ne-eqb, le-leb}
 use Rattle.lists.specs.Scan.{choose, atMost, all, nonzero, count}
 use Rattle.lists.specs.Part.{between}
@@ -21,13 +21,15 @@ use Rattle.records.specs.View.{Held, places, innerCell}
 use Rattle.frames.specs.declared.form.Form.{Form}
 use Rattle.records.proofs.Owns.{InnerRule, inner-rule, body-fits}
 use Rattle.art.specs.Stores.{Cell, unused, inner-cell}
+use Rattle.edits.specs.declared.representation.Change.{Change}
+use Rattle.edits.specs.Change.{countIn}
 use Rattle.edits.specs.Head.{setPrefix, setHead}
-use Rattle.edits.specs.Body.{bodyAdd, bodyRemove, bodyReplace, bodyOf}
-use Rattle.edits.specs.Record.{withBody, addOf, removeOf, replaceOf, spreadOf, buildRec}
+use Rattle.edits.specs.Body.{bodyChange, bodyOf}
+use Rattle.edits.specs.Record.{withBody, changeOf, spreadOf, buildRec}
 use Rattle.edits.specs.Inner.{PrefixFits, Inner}
-use Rattle.edits.specs.Rows.{Row, rowInsert, rowRemove, rowReplace}
+use Rattle.edits.specs.Rows.{Row, rowChange, Takes}
 use Rattle.edits.proofs.Shown.{Holds, holds-size, holds-climbs, holds-child}
-use Rattle.edits.proofs.Bodies.{holds-add, holds-remove, holds-replace, holds-built, spread-length-is, spread-shows, spread-count}
+use Rattle.edits.proofs.Bodies.{holds-change, holds-built, spread-length-is, spread-shows, spread-count}
 
 -- the cell of this length, prefix and row
 abbrev shown : ℕ → Prefix → Row → Cell Held
@@ -182,25 +184,13 @@ module _ {form : Form} (eight : form .prefix ≡ 8) {kind : ℕ} {rec : List ℕ
       (record { first = head .first ∙ inner-kind i; second = head .second; prefix = head .prefix ∙ i .prefix }) (inner-fits i) two
       (body-part form eight kind rec body m (i .fits .long) (h .fits .long)) h
 
-  pub add-inner : (b r : ℕ) → length row < childrenOf kind → b < 256 → refFor b row ≡ 0 → 0 < r → Inner form kind (addOf form kind rec b r) p (rowInsert b r row)
-  unfolding addOf
-  add-inner b r room low z some =
-      with-body (bodyAdd kind (bodyPart form kind rec) (getD rec 1 0) b r) (getD rec 1 0 + 1) (rowInsert b r row) (omega (arith, inner-two i, inner-size i))
-      (holds-add (inner-holds i) b r (omega (arith, inner-size i)) low z some)
-
-  pub remove-inner : (b : ℕ) → 3 ≤ length row → b < 256 → 0 < refFor b row → Inner form kind (removeOf form kind rec b) p (rowRemove b row)
-  unfolding removeOf
-  remove-inner b three low some =
-      with-body (bodyRemove kind (bodyPart form kind rec) (getD rec 1 0) b) (getD rec 1 0 - 1) (rowRemove b row) (omega (arith, inner-size i)) (holds-remove (inner-holds i) b low some)
-
-  pub replace-inner : (b r : ℕ) → b < 256 → 0 < refFor b row → 0 < r → Inner form kind (replaceOf form kind rec b r) p (rowReplace b r row)
-  unfolding replaceOf
-  replace-inner b r low some new =
-      let body = bodyReplace kind (bodyPart form kind rec) (getD rec 1 0) b r in
-      let h = holds-replace (inner-holds i) b r low some new in
-      subst (λ (l : List ℕ). Inner form kind l p (rowReplace b r row))
-      (ap (set (withBody form kind rec body) 1) (sym (word form eight kind rec body 0 (i .fits .long) (h .fits .long) 1 (omega arith))) ∙ set-getD (withBody form kind rec body) 1 0)
-      (with-body body (getD rec 1 0) (rowReplace b r row) (omega (arith, inner-two i, inner-size i)) h)
+  -- any change that leaves two
+  pub change-inner : (b : ℕ) → b < 256 → (change : Change) → Takes (childrenOf kind) b change row → 2 ≤ countIn change (length row)
+      → Inner form kind (changeOf form kind rec b change) p (rowChange b change row)
+  unfolding changeOf
+  change-inner b low change takes two =
+      with-body (bodyChange kind (bodyPart form kind rec) (getD rec 1 0) b change) (countIn change (getD rec 1 0)) (rowChange b change row)
+      (subst (λ (n : ℕ). 2 ≤ countIn change n) (inner-size i) two) (holds-change (inner-holds i) b low change takes)
 
 -- ---- another prefix
 module _ (form : Form) (p : Prefix) (rec : List ℕ) (eight : length (p .stored) ≡ 8) (long : 3 + form .counts + 8 ≤ length rec) where

@@ -15,6 +15,15 @@ use Rattle.frames.specs.Kind.{kindRow, childrenOf}
 use Rattle.records.specs.Own.{BodyFits, sortedChild, indirectChild, childOf}
 use Rattle.records.proofs.Owns.{indirect-fits}
 use Rattle.lists.proofs.Pieces.{front-at}
+use Rattle.edits.specs.declared.representation.Change.{Change}
+use Rattle.edits.specs.declared.representation.Change.the-variants.{Add, Remove, Replace}
+use Rattle.edits.specs.Change.{Needs}
+
+-- what a change needs, in other words
+pub needs-as : {R S C D : Type 0} → (R → S) → (C → D) → (change : Change) → Needs change R C → Needs change S D
+needs-as f g (Add r) h = f h
+needs-as f g Remove h = g h
+needs-as f g (Replace r) h = g h
 
 -- the place of a child that there is
 module _ {kind : ℕ} {body : List ℕ} {n : ℕ} (w : BodyFits kind body n) (byte : ℕ) (some : 0 < childOf kind body n byte) where

@@ -18,7 +18,9 @@ use Rattle.records.proofs.RowRules.{climbs-lower, filled-climbs}
 use Rattle.art.specs.Stores.{Place}
 use Rattle.art.specs.Tags.{Order, order, below, equal, above}
 use Rattle.art.specs.Refs.{add-ref, add-ref-by, pair-ref, pair-ref-by, cut-ref, re-ref}
-use Rattle.edits.specs.Rows.{Row, rowInsertBy, rowInsert, rowPair, rowRemove, rowReplace}
+use Rattle.edits.specs.declared.representation.Change.{Change}
+use Rattle.edits.specs.declared.representation.Change.the-variants.{Add, Remove, Replace}
+use Rattle.edits.specs.Rows.{Row, rowInsertBy, rowInsert, rowPair, rowRemove, rowReplace, rowChange, refsChange}
 
 -- a row whose front child is for another byte
 pub refs-later : (b : ℕ) (e : ℕ × ℕ) (es : Row) → (b ≡ e .0 → ⊥) → refFor b (e ∷ es) ≡ refFor b es
@@ -131,6 +133,12 @@ module _ (b r : ℕ) where
           → places (ite d ((e .0, r) ∷ es) (e ∷ rowReplace b r es)) ≡ ite d ((e .0, placeAt r) ∷ places es) ((e .0, placeAt (e .1)) ∷ re-ref (places es) b (placeAt r))
       go (yes q) ih = refl
       go (no n) ih = ap (λ (l : List (ℕ × Place)). (e .0, placeAt (e .1)) ∷ l) ih
+
+-- ---- by the change
+pub change-places : (b : ℕ) (change : Change) (row : Row) → places (rowChange b change row) ≡ refsChange b change (places row)
+change-places b (Add r) row = insert-places b r row
+change-places b Remove row = remove-places b row
+change-places b (Replace r) row = replace-places b r row
 
 -- ---- a table with another reference for b: one change f of its row, that goes past the bytes below b, and is right where b is in front
 module _ (f : Row → Row) (b was now : ℕ) (past : (e : ℕ × ℕ) (es : Row) → e .0 < b → f (e ∷ es) ≡ e ∷ f es)

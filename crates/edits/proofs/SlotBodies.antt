@@ -22,8 +22,11 @@ use Rattle.records.proofs.Owns.{indirect-fits}
 use Rattle.records.proofs.Slots.{count-has, named-get, slot-filled}
 use Rattle.records.proofs.Rows.{spread-length, spread-at}
 use Rattle.lists.specs.Edit.{padded}
-use Rattle.edits.specs.Body.{slotAdd, slotRemove, slotReplace, tab, refsOf, slotFor, slotBody}
-use Rattle.edits.specs.Rows.{Row, rowInsert, rowRemove, rowReplace}
+use Rattle.edits.specs.declared.representation.Change.{Change}
+use Rattle.edits.specs.declared.representation.Change.the-variants.{Add, Remove, Replace}
+use Rattle.edits.specs.Change.{countIn}
+use Rattle.edits.specs.Body.{slotAdd, slotRemove, slotReplace, slotChange, tab, refsOf, slotFor, slotBody}
+use Rattle.edits.specs.Rows.{Row, rowInsert, rowRemove, rowReplace, rowChange, Takes}
 use Rattle.edits.proofs.Columns.{refs-length, tab-as, tab-length}
 use Rattle.edits.proofs.RowChanges.{table-insert, table-remove, table-replace}
 use Rattle.edits.proofs.Shown.{Indirect}
@@ -69,7 +72,7 @@ indirect-shown body n row slots refs long es er low many names e =
     }
 
 -- ---- one change: byte b's slot number was that of place j, or 0 where j was empty (p), and becomes so again (q), with y at the place
-record Change (slots refs : List ℕ) (b j x y : ℕ) (p q : Bool) : Type 0 where
+record SlotWrite (slots refs : List ℕ) (b j x y : ℕ) (p q : Bool) : Type 0 where
   s256 : length slots ≡ 256
   r48 : length refs ≡ 48
   low : all (atMost 48) slots ≡ true
@@ -81,7 +84,7 @@ record Change (slots refs : List ℕ) (b j x y : ℕ) (p q : Bool) : Type 0 wher
   now : x ≡ choose q (j + 1) 0
   fills : nonzero y ≡ q
 
-module _ {slots refs : List ℕ} {b j x y : ℕ} {p q : Bool} (c : Change slots refs b j x y p q) where
+module _ {slots refs : List ℕ} {b j x y : ℕ} {p q : Bool} (c : SlotWrite slots refs b j x y p q) where
   -- whether such a slot number names place i
   names-j : (t : Bool) (w : ℕ) → w ≡ choose t (j + 1) 0 → (i : ℕ) → i ≡ j → bit (eqb w (0 + i + 1)) ≡ bit t
   names-j true w e i h = ap bit (eq-eqb w (0 + i + 1) (omega arith))
@@ -230,7 +233,7 @@ module _ (body : List ℕ) (n : ℕ) (row : Row) (s : Indirect body n row) (few 
     written : (p q : Bool) → w ≡ choose p (j + 1) 0 → nonzero (getD refs j 0) ≡ p → x ≡ choose q (j + 1) 0 → nonzero y ≡ q → (m : ℕ) → m + bit p ≡ n + bit q
         → (more : Row) → filled 0 (set (spread refs slots) b y) ≡ more → Indirect (set (set body b x) (256 + j) y) m more
     written p q was full now fills m e more f =
-        let c : Change slots refs b j x y p q =
+        let c : SlotWrite slots refs b j x y p q =
         record { s256 = s256; r48 = r48; low = rule .1 .low; names = rule .1 .names; bl = bl; jl = jl; was = was; full = full; now = now; fills = fills } in
         indirect-shown (set (set body b x) (256 + j) y) m more (set slots b x) (set refs j y)
         (length-set (set body b x) (256 + j) y ∙ length-set body b x ∙ s .long) slots-new refs-new
@@ -250,7 +253,7 @@ module _ (body : List ℕ) (n : ℕ) (row : Row) (s : Indirect body n row) (few 
           let full : all nonzero refs ≡ true = all-by nonzero refs (λ i l. let z : getD refs i 0 ≡ 0 → ⊥ = eqb-false (getD refs i 0) 0 (first-none (is 0) refs end i l) in lt-ltb 0 (getD refs i 0) (omega arith)) in
           absurd (omega (arith, count-all nonzero refs full, rule .2, r48))
 
-  pub indirect-add : (r : ℕ) → n < 48 → refFor b row ≡ 0 → 0 < r → Indirect (slotAdd body b r) (n + 1) (rowInsert b r row)
+  indirect-add : (r : ℕ) → n < 48 → refFor b row ≡ 0 → 0 < r → Indirect (slotAdd body b r) (n + 1) (rowInsert b r row)
   unfolding slotAdd
   indirect-add r room z some =
       let j = first (is 0) refs in
@@ -259,7 +262,7 @@ module _ (body : List ℕ) (n : ℕ) (row : Row) (s : Indirect body n row) (few 
       written j (j + 1) r (u .0) false true none (ap nonzero (u .1)) refl (lt-ltb 0 r some) (n + 1) (omega arith) (rowInsert b r row)
       (table-insert b (spread refs slots) long bl r (at-b ∙ z) some ∙ ap (rowInsert b r) (s .shows))
 
-  pub indirect-remove : 0 < refFor b row → Indirect (slotRemove body b) (n - 1) (rowRemove b row)
+  indirect-remove : 0 < refFor b row → Indirect (slotRemove body b) (n - 1) (rowRemove b row)
   unfolding slotRemove
   indirect-remove h =
       let j = w - 1 in
@@ -268,7 +271,7 @@ module _ (body : List ℕ) (n : ℕ) (row : Row) (s : Indirect body n row) (few 
       (written j 0 0 (omega (arith, small, some-slot h)) true false (omega (arith, some-slot h)) (some-ref h) refl refl (n - 1) (omega arith) (rowRemove b row)
       (table-remove b (spread refs slots) long bl (omega (arith, at-b)) ∙ ap (rowRemove b) (s .shows)))
 
-  pub indirect-replace : (r : ℕ) → 0 < refFor b row → 0 < r → Indirect (slotReplace body b r) n (rowReplace b r row)
+  indirect-replace : (r : ℕ) → 0 < refFor b row → 0 < r → Indirect (slotReplace body b r) n (rowReplace b r row)
   unfolding slotReplace
   indirect-replace r h some =
       let j = w - 1 in
@@ -276,6 +279,11 @@ module _ (body : List ℕ) (n : ℕ) (row : Row) (s : Indirect body n row) (few 
       (ap (λ (l : List ℕ). set l (256 + j) r) (ap (set body b) slot ∙ set-getD body b 0) ∙ ap (λ (i : ℕ). set body i r) (let e : 256 + j ≡ 255 + getD body b 0 = omega (arith, slot, some-slot h) in e))
       (written j w r (omega (arith, small, some-slot h)) true true (omega (arith, some-slot h)) (some-ref h) (omega (arith, some-slot h)) (lt-ltb 0 r some) n (omega arith) (rowReplace b r row)
       (table-replace b (spread refs slots) long bl r (omega (arith, at-b)) some ∙ ap (rowReplace b r) (s .shows)))
+
+  pub indirect-change : (change : Change) → length row ≡ n → Takes 48 b change row → Indirect (slotChange body b change) (countIn change n) (rowChange b change row)
+  indirect-change (Add r) size t = indirect-add r (omega (arith, t .0)) (t .1 .0) (t .1 .1)
+  indirect-change Remove size t = indirect-remove t
+  indirect-change (Replace r) size t = indirect-replace r (t .0) (t .1)
 
 -- ---- the body built from a row
 -- one more, where there is a slot number

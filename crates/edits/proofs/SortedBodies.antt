@@ -18,8 +18,11 @@ use Rattle.lists.proofs.Parts.{between-length, between-whole, between-join, bet
 use Rattle.lists.proofs.Edits.{padded-length}
 use Rattle.records.specs.Own.{sortedOk}
 use Rattle.records.specs.Row.{beside, sortedRow, refFor, Climbs}
-use Rattle.edits.specs.Body.{sortedAdd, sortedRemove, sortedReplace, bytesOf, refsOf, sortedBody}
-use Rattle.edits.specs.Rows.{Row, rowInsert, rowRemove, rowReplace}
+use Rattle.edits.specs.declared.representation.Change.{Change}
+use Rattle.edits.specs.declared.representation.Change.the-variants.{Add, Remove, Replace}
+use Rattle.edits.specs.Change.{countIn}
+use Rattle.edits.specs.Body.{sortedAdd, sortedRemove, sortedReplace, sortedChange, bytesOf, refsOf, sortedBody}
+use Rattle.edits.specs.Rows.{Row, rowInsert, rowRemove, rowReplace, rowChange, Takes}
 use Rattle.edits.proofs.Columns.{bytes-length, refs-length}
 use Rattle.edits.proofs.RowChanges.{refs-later, by-order, insert-length, insert-climbs, remove-length, remove-climbs, replace-length, replace-climbs}
 use Rattle.edits.proofs.Shown.{Sorted}
@@ -255,7 +258,7 @@ module _ (k : ℕ) (body : List ℕ) (n : ℕ) (row : Row) (s : Sorted k body n 
   right : between body k (k + k) ≡ padded k (refsOf row)
   right = ap (λ (l : List ℕ). between l k (k + k)) canon ∙ sorted-refs k row n size few
 
-  pub sorted-add : (b r : ℕ) → n < k → refFor b row ≡ 0 → b < 256 → 0 < r → Sorted k (sortedAdd k body n b r) (n + 1) (rowInsert b r row)
+  sorted-add : (b r : ℕ) → n < k → refFor b row ≡ 0 → b < 256 → 0 < r → Sorted k (sortedAdd k body n b r) (n + 1) (rowInsert b r row)
   unfolding sortedAdd sortedBody
   sorted-add b r room z low some =
       let at = first (atLeast b) (bytesOf row) in
@@ -268,7 +271,7 @@ module _ (k : ℕ) (body : List ℕ) (n : ℕ) (row : Row) (s : Sorted k body n 
       ∙ ap₂ (λ (x y : List ℕ). padded k x ++ padded k y) (sym (bytes-col new)) (sym (refs-col new))))
       (sorted-built k new (n + 1) (insert-length b r 0 row c z ∙ omega arith) (omega arith) (insert-climbs b r 0 row (omega arith) low some c z))
 
-  pub sorted-remove : (b : ℕ) → 0 < refFor b row → Sorted k (sortedRemove k body n b) (n - 1) (rowRemove b row)
+  sorted-remove : (b : ℕ) → 0 < refFor b row → Sorted k (sortedRemove k body n b) (n - 1) (rowRemove b row)
   unfolding sortedRemove sortedBody
   sorted-remove b h =
       let at = first (is b) (bytesOf row) in
@@ -281,7 +284,7 @@ module _ (k : ℕ) (body : List ℕ) (n : ℕ) (row : Row) (s : Sorted k body n 
       ∙ ap₂ (λ (x y : List ℕ). padded k x ++ padded k y) (sym (bytes-col new)) (sym (refs-col new))))
       (sorted-built k new (n - 1) (omega (arith, remove-length b row h)) (omega arith) (remove-climbs b 0 row c))
 
-  pub sorted-replace : (b r : ℕ) → 0 < refFor b row → 0 < r → Sorted k (sortedReplace k body n b r) n (rowReplace b r row)
+  sorted-replace : (b r : ℕ) → 0 < refFor b row → 0 < r → Sorted k (sortedReplace k body n b r) n (rowReplace b r row)
   unfolding sortedReplace sortedBody
   sorted-replace b r h some =
       let at = first (is b) (bytesOf row) in
@@ -293,3 +296,8 @@ module _ (k : ℕ) (body : List ℕ) (n : ℕ) (row : Row) (s : Sorted k body n 
       ∙ set-right (padded k (bytesOf row)) (padded k (refsOf row)) k at r (padded-length k (bytesOf row) (omega (arith, bytes-length row)))
       ∙ ap₂ _++_ (ap (padded k) (sym (bytes-set b r row))) (refs-set b r row (zeros (k - length (refsOf row))) h ∙ ap (λ (j : ℕ). refsOf new ++ zeros (k - j)) same)))
       (sorted-built k new n (replace-length b r row ∙ size) few (replace-climbs b r 0 row some c))
+
+  pub sorted-change : (b : ℕ) → b < 256 → (change : Change) → Takes k b change row → Sorted k (sortedChange k body n b change) (countIn change n) (rowChange b change row)
+  sorted-change b low (Add r) t = sorted-add b r (omega (arith, t .0)) (t .1 .0) low (t .1 .1)
+  sorted-change b low Remove t = sorted-remove b t
+  sorted-change b low (Replace r) t = sorted-replace b r (t .0) (t .1)

@@ -1,5 +1,5 @@
 -- Kind 4, and every table of 256 places: the table of a row has this row, and a table with another reference for a byte has the changed row.
-use Prim.Native.Nat.{ℕ, zero, suc, _+_, _-_, _<_}
+use Prim.Native.Nat.{ℕ, zero, suc, _+_, _<_}
 use mathlib.Core.Path.{_≡_, refl, sym, ap, ap₂, subst, _∙_}
 use mathlib.Core.List.{List, [], _∷_}
 use mathlib.Core.Bool.{Bool, true, false}
@@ -14,7 +14,10 @@ use Rattle.records.specs.Row.{filled, directRow, refFor, Climbs}
 use Rattle.records.proofs.Rows.{filled-skips, filled-holds}
 use Rattle.records.proofs.RowRules.{climbs-none, filled-length}
 use Rattle.edits.specs.Body.{tab, rowSpread}
-use Rattle.edits.specs.Rows.{Row, rowInsert, rowRemove, rowReplace}
+use Rattle.edits.specs.declared.representation.Change.{Change}
+use Rattle.edits.specs.declared.representation.Change.the-variants.{Add, Remove, Replace}
+use Rattle.edits.specs.Change.{refIn, countIn}
+use Rattle.edits.specs.Rows.{Row, rowInsert, rowRemove, rowReplace, rowChange, Takes}
 use Rattle.edits.proofs.Columns.{tab-as, tab-length}
 use Rattle.edits.proofs.RowChanges.{insert-length, remove-length, replace-length, table-insert, table-remove, table-replace}
 use Rattle.edits.proofs.Shown.{Direct}
@@ -62,20 +65,16 @@ pub direct-built : (row : Row) → Climbs 0 row → Direct (rowSpread row) (leng
 direct-built row c = direct-shown (rowSpread row) (length row) row (tab-length 256 0 (λ b. refFor b row)) (spread-row row c) refl
 
 module _ (body : List ℕ) (n : ℕ) (row : Row) (s : Direct body n row) (size : length row ≡ n) (c : Climbs 0 row) (b : ℕ) (low : b < 256) (here : getD body b 0 ≡ refFor b row) where
-  pub direct-add : (r : ℕ) → refFor b row ≡ 0 → 0 < r → Direct (set body b r) (n + 1) (rowInsert b r row)
-  direct-add r z some =
-      direct-shown (set body b r) (n + 1) (rowInsert b r row) (length-set body b r ∙ s .long)
-      (table-insert b body (s .long) low r (here ∙ z) some ∙ ap (rowInsert b r) (s .shows))
-      (insert-length b r 0 row c z ∙ omega arith)
+  pub direct-change : (change : Change) → Takes 256 b change row → Direct (set body b (refIn change)) (countIn change n) (rowChange b change row)
+  direct-change change t =
+      direct-shown (set body b (refIn change)) (countIn change n) (rowChange b change row) (length-set body b (refIn change) ∙ s .long) (shows change t) (counts change t)
+    where
+      shows : (change : Change) → Takes 256 b change row → directRow (set body b (refIn change)) ≡ rowChange b change row
+      shows (Add r) t = table-insert b body (s .long) low r (here ∙ t .1 .0) (t .1 .1) ∙ ap (rowInsert b r) (s .shows)
+      shows Remove t = table-remove b body (s .long) low (omega (arith, t)) ∙ ap (rowRemove b) (s .shows)
+      shows (Replace r) t = table-replace b body (s .long) low r (omega (arith, t .0)) (t .1) ∙ ap (rowReplace b r) (s .shows)
 
-  pub direct-remove : 0 < refFor b row → Direct (set body b 0) (n - 1) (rowRemove b row)
-  direct-remove h =
-      direct-shown (set body b 0) (n - 1) (rowRemove b row) (length-set body b 0 ∙ s .long)
-      (table-remove b body (s .long) low (omega arith) ∙ ap (rowRemove b) (s .shows))
-      (omega (arith, remove-length b row h))
-
-  pub direct-replace : (r : ℕ) → 0 < refFor b row → 0 < r → Direct (set body b r) n (rowReplace b r row)
-  direct-replace r h some =
-      direct-shown (set body b r) n (rowReplace b r row) (length-set body b r ∙ s .long)
-      (table-replace b body (s .long) low r (omega arith) some ∙ ap (rowReplace b r) (s .shows))
-      (replace-length b r row ∙ size)
+      counts : (change : Change) → Takes 256 b change row → length (rowChange b change row) ≡ countIn change n
+      counts (Add r) t = insert-length b r 0 row c (t .1 .0) ∙ omega arith
+      counts Remove t = omega (arith, remove-length b row t)
+      counts (Replace r) t = replace-length b r row ∙ size

@@ -8,6 +8,9 @@ use Rattle.lists.specs.Part.{between}
 use Rattle.lists.specs.Edit.{shiftIn, shiftOut, padded}
 use Rattle.frames.specs.Kind.{childrenOf}
 use Rattle.records.specs.Row.{sortedRow, spread, refFor}
+use Rattle.edits.specs.Change.{refIn}
+use Rattle.edits.specs.declared.representation.Change.{Change}
+use Rattle.edits.specs.declared.representation.Change.the-variants.{Add, Remove, Replace}
 
 -- ── kinds 1 and 2, with k places of which n are used ──
 -- where a byte goes, and where it is
@@ -30,6 +33,12 @@ sortedRemove k body n byte = shiftOut (placeOf body n byte) (between body 0 k) +
 unfoldable pub sortedReplace : ℕ → List ℕ → ℕ → ℕ → ℕ → List ℕ
 sortedReplace k body n byte ref = set body (k + placeOf body n byte) ref
 
+-- by the change
+abbrev pub sortedChange : ℕ → List ℕ → ℕ → ℕ → Change → List ℕ
+sortedChange k body n byte (Add ref) = sortedAdd k body n byte ref
+sortedChange k body n byte Remove = sortedRemove k body n byte
+sortedChange k body n byte (Replace ref) = sortedReplace k body n byte ref
+
 -- ── kind 3 ──
 -- a new child takes the lowest unused slot
 unfoldable pub slotAdd : List ℕ → ℕ → ℕ → List ℕ
@@ -43,18 +52,16 @@ slotRemove body byte = set (set body byte 0) (255 + getD body byte 0) 0
 unfoldable pub slotReplace : List ℕ → ℕ → ℕ → List ℕ
 slotReplace body byte ref = set body (255 + getD body byte 0) ref
 
+-- by the change
+abbrev pub slotChange : List ℕ → ℕ → Change → List ℕ
+slotChange body byte (Add ref) = slotAdd body byte ref
+slotChange body byte Remove = slotRemove body byte
+slotChange body byte (Replace ref) = slotReplace body byte ref
+
 -- ── every kind: 1 and 2, 3, and 4, where a byte has its own place ──
-unfoldable pub bodyAdd : ℕ → List ℕ → ℕ → ℕ → ℕ → List ℕ
-bodyAdd kind body n byte ref =
-    choose (leb kind 2) (sortedAdd (childrenOf kind) body n byte ref) (choose (eqb kind 3) (slotAdd body byte ref) (set body byte ref))
-
-unfoldable pub bodyRemove : ℕ → List ℕ → ℕ → ℕ → List ℕ
-bodyRemove kind body n byte =
-    choose (leb kind 2) (sortedRemove (childrenOf kind) body n byte) (choose (eqb kind 3) (slotRemove body byte) (set body byte 0))
-
-unfoldable pub bodyReplace : ℕ → List ℕ → ℕ → ℕ → ℕ → List ℕ
-bodyReplace kind body n byte ref =
-    choose (leb kind 2) (sortedReplace (childrenOf kind) body n byte ref) (choose (eqb kind 3) (slotReplace body byte ref) (set body byte ref))
+unfoldable pub bodyChange : ℕ → List ℕ → ℕ → ℕ → Change → List ℕ
+bodyChange kind body n byte change =
+    choose (leb kind 2) (sortedChange (childrenOf kind) body n byte change) (choose (eqb kind 3) (slotChange body byte change) (set body byte (refIn change)))
 
 -- ── 256 places, one for each byte: the references of a body, and of a row ──
 -- g of each of the m numbers from b on

@@ -1,3 +1,4 @@
+pub mod Change
 pub mod Head
 pub mod Body
 pub mod Rows

@@ -6,13 +6,15 @@ ghost use lib.ListN.{length, getD, replicate};
 ghost use Rattle.lists.specs.Scan.{choose, is, first, count, nonzero};
 ghost use Rattle.lists.specs.Part.{between};
 ghost use Rattle.records.specs.Row.{directRow};
-ghost use Rattle.edits.specs.Body.{slotAdd, slotRemove, slotReplace, slotSpread, slotPut, slotBody};
+ghost use Rattle.edits.specs.Change.{Needs};
+ghost use Rattle.edits.specs.Body.{slotAdd, slotRemove, slotReplace, slotChange, slotSpread, slotPut, slotBody};
+use super::representation::Change;
 use frames::frame::num;
 use lists::scan;
 use records::inner_node_indirect::indirect_child;
 
 // A child in the lowest place that is not used.
-pub fn indirect_add(body: &mut [u32], byte: usize, reference: u32)
+fn indirect_add(body: &mut [u32], byte: usize, reference: u32)
     requires { ⌜ ((byte < 256) × (length (now body) ≡ 304)) × (first (is 0) (between (now body) 256 304) < 48) ⌝ }
     ensures { λ _. ⌜ now (body .exit) ≡ slotAdd (now (body .entry)) byte reference ⌝ }
 {
@@ -23,7 +25,7 @@ pub fn indirect_add(body: &mut [u32], byte: usize, reference: u32)
 }
 
 // The child for a byte taken out; its place is left a hole.
-pub fn indirect_remove(body: &mut [u32], byte: usize)
+fn indirect_remove(body: &mut [u32], byte: usize)
     requires { ⌜ ((byte < 256) × (length (now body) ≡ 304)) × ((1 ≤ getD (now body) byte 0) × (getD (now body) byte 0 ≤ 48)) ⌝ }
     ensures { λ _. ⌜ now (body .exit) ≡ slotRemove (now (body .entry)) byte ⌝ }
 {
@@ -34,13 +36,25 @@ pub fn indirect_remove(body: &mut [u32], byte: usize)
 }
 
 // Another reference for the child of a byte.
-pub fn indirect_replace(body: &mut [u32], byte: usize, reference: u32)
+fn indirect_replace(body: &mut [u32], byte: usize, reference: u32)
     requires { ⌜ ((byte < 256) × (length (now body) ≡ 304)) × ((1 ≤ getD (now body) byte 0) × (getD (now body) byte 0 ≤ 48)) ⌝ }
     ensures { λ _. ⌜ now (body .exit) ≡ slotReplace (now (body .entry)) byte reference ⌝ }
 {
     let slot = num(body, byte);
     let at = 255 + slot;
     body[at] = reference;
+}
+
+// A change of the children, by its cases.
+pub fn indirect_change(body: &mut [u32], byte: usize, change: Change)
+    requires { ⌜ ((byte < 256) × (length (now body) ≡ 304)) × Needs change (first (is 0) (between (now body) 256 304) < 48) ((1 ≤ getD (now body) byte 0) × (getD (now body) byte 0 ≤ 48)) ⌝ }
+    ensures { λ _. ⌜ now (body .exit) ≡ slotChange (now (body .entry)) byte change ⌝ }
+{
+    match change {
+        Change::Add(reference) => indirect_add(body, byte, reference),
+        Change::Remove => indirect_remove(body, byte),
+        Change::Replace(reference) => indirect_replace(body, byte, reference),
+    }
 }
 
 // The references by their bytes: 256 places, all nothing, filled from the 48 slots.

@@ -8,12 +8,14 @@ ghost use Rattle.lists.specs.Scan.{choose, is, first, count, nonzero};
 ghost use Rattle.lists.specs.Part.{between};
 ghost use Rattle.records.specs.Own.{sortedOk};
 ghost use Rattle.records.specs.Row.{directRow};
-ghost use Rattle.edits.specs.Body.{sortedAdd, sortedRemove, sortedReplace, sortedSpread, sortedPut, sortedBody};
+ghost use Rattle.edits.specs.Change.{Needs};
+ghost use Rattle.edits.specs.Body.{sortedAdd, sortedRemove, sortedReplace, sortedChange, sortedSpread, sortedPut, sortedBody};
+use super::representation::Change;
 use lists::edit;
 use lists::scan;
 
 // A child put in before the first whose byte is higher.
-pub fn sorted_add(body: &mut [u32], k: usize, n: usize, byte: u32, reference: u32)
+fn sorted_add(body: &mut [u32], k: usize, n: usize, byte: u32, reference: u32)
     requires { ⌜ (n < k) × (length (now body) ≡ k + k) ⌝ }
     ensures { λ _. ⌜ now (body .exit) ≡ sortedAdd k (now (body .entry)) n byte reference ⌝ }
 {
@@ -24,7 +26,7 @@ pub fn sorted_add(body: &mut [u32], k: usize, n: usize, byte: u32, reference: u3
 }
 
 // The child for a byte taken out.
-pub fn sorted_remove(body: &mut [u32], k: usize, n: usize, byte: u32)
+fn sorted_remove(body: &mut [u32], k: usize, n: usize, byte: u32)
     requires { ⌜ ((n ≤ k) × (length (now body) ≡ k + k)) × (first (is byte) (between (now body) 0 n) < n) ⌝ }
     ensures { λ _. ⌜ now (body .exit) ≡ sortedRemove k (now (body .entry)) n byte ⌝ }
 {
@@ -35,13 +37,25 @@ pub fn sorted_remove(body: &mut [u32], k: usize, n: usize, byte: u32)
 }
 
 // Another reference for the child of a byte.
-pub fn sorted_replace(body: &mut [u32], k: usize, n: usize, byte: u32, reference: u32)
+fn sorted_replace(body: &mut [u32], k: usize, n: usize, byte: u32, reference: u32)
     requires { ⌜ ((n ≤ k) × (length (now body) ≡ k + k)) × (first (is byte) (between (now body) 0 n) < n) ⌝ }
     ensures { λ _. ⌜ now (body .exit) ≡ sortedReplace k (now (body .entry)) n byte reference ⌝ }
 {
     let i = scan::first_equal(&body[0..n], byte);
     let at = k + i;
     body[at] = reference;
+}
+
+// A change of the children, by its cases.
+pub fn sorted_change(body: &mut [u32], k: usize, n: usize, byte: u32, change: Change)
+    requires { ⌜ ((n ≤ k) × (length (now body) ≡ k + k)) × Needs change (n < k) (first (is byte) (between (now body) 0 n) < n) ⌝ }
+    ensures { λ _. ⌜ now (body .exit) ≡ sortedChange k (now (body .entry)) n byte change ⌝ }
+{
+    match change {
+        Change::Add(reference) => sorted_add(body, k, n, byte, reference),
+        Change::Remove => sorted_remove(body, k, n, byte),
+        Change::Replace(reference) => sorted_replace(body, k, n, byte, reference),
+    }
 }
 
 // The references by their bytes: 256 places, those of the children filled.

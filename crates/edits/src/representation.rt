@@ -7,8 +7,9 @@ ghost use Rattle.frames.specs.Kind.{childrenOf, bodyWords};
 ghost use Rattle.frames.specs.Form.{recordWords};
 ghost use Rattle.records.specs.Own.{BodyFits, InnerFits, childOf, childAt};
 ghost use Rattle.records.specs.Row.{directRow};
-ghost use Rattle.edits.specs.Body.{bodyAdd, bodyRemove, bodyReplace, bodySpread, bodyOf};
-ghost use Rattle.edits.specs.Record.{addOf, removeOf, replaceOf, spreadOf, buildRec};
+ghost use Rattle.edits.specs.Change.{refIn, countIn, Needs};
+ghost use Rattle.edits.specs.Body.{bodyChange, bodySpread, bodyOf};
+ghost use Rattle.edits.specs.Record.{changeOf, spreadOf, buildRec};
 use super::header;
 use super::inner_node_direct;
 use super::inner_node_indirect;
@@ -21,84 +22,61 @@ use lists::edit;
 use lists::scan;
 use prefix::Prefix;
 
-// A child put into a body with n children, which has room.
-fn body_add(body: &mut [u32], kind: u32, n: usize, byte: u8, reference: u32)
-    requires { ⌜ BodyFits kind (now body) n × (n < childrenOf kind) ⌝ }
-    ensures { λ _. ⌜ now (body .exit) ≡ bodyAdd kind (now (body .entry)) n byte reference ⌝ }
+// What is done to the children of a record, for one byte: a child more, the child taken out, another reference for it.
+pub enum Change {
+    Add(u32),
+    Remove,
+    Replace(u32),
+}
+
+// What stands for the byte afterwards, 0 where nothing does.
+fn reference_in(change: Change) -> u32
+    ensures { λ r. ⌜ r ≡ refIn change ⌝ }
 {
-    if kind <= 2 {
-        let row = kind::row_of(kind);
-        inner_node_sorted::sorted_add(body, row.children as usize, n, byte as u32, reference);
-    } else if kind == 3 {
-        inner_node_indirect::indirect_add(body, byte as usize, reference);
-    } else {
-        inner_node_direct::direct_set(body, byte as usize, reference);
+    match change {
+        Change::Add(reference) => reference,
+        Change::Remove => 0,
+        Change::Replace(reference) => reference,
     }
 }
 
-// A child put in, into a record that has room.
-pub fn add_child(rec: &mut [u32], form: Form, kind: u32, byte: u8, reference: u32)
-    requires { ⌜ InnerFits form kind (now rec) × (getD (now rec) 1 0 < childrenOf kind) ⌝ }
-    ensures { λ _. ⌜ now (rec .exit) ≡ addOf form kind (now (rec .entry)) byte reference ⌝ }
+// How many of n children there are afterwards.
+fn count_in(change: Change, n: u32) -> u32
+    requires { ⌜ (0 < n) × (n ≤ 256) ⌝ }
+    ensures { λ r. ⌜ r ≡ countIn change n ⌝ }
+{
+    match change {
+        Change::Add(_) => n + 1,
+        Change::Remove => n - 1,
+        Change::Replace(_) => n,
+    }
+}
+
+// The children of a body changed, of which it has n.
+fn body_change(body: &mut [u32], kind: u32, n: usize, byte: u8, change: Change)
+    requires { ⌜ BodyFits kind (now body) n × Needs change (n < childrenOf kind) (0 < childOf kind (now body) n byte) ⌝ }
+    ensures { λ _. ⌜ now (body .exit) ≡ bodyChange kind (now (body .entry)) n byte change ⌝ }
+{
+    if kind <= 2 {
+        let row = kind::row_of(kind);
+        inner_node_sorted::sorted_change(body, row.children as usize, n, byte as u32, change);
+    } else if kind == 3 {
+        inner_node_indirect::indirect_change(body, byte as usize, change);
+    } else {
+        inner_node_direct::direct_set(body, byte as usize, reference_in(change));
+    }
+}
+
+// The children of a record changed: a child more into one that has room, or a child that there is taken out or replaced.
+pub fn change_child(rec: &mut [u32], form: Form, kind: u32, byte: u8, change: Change)
+    requires { ⌜ InnerFits form kind (now rec) × Needs change (getD (now rec) 1 0 < childrenOf kind) (0 < childAt form kind (now rec) byte) ⌝ }
+    ensures { λ _. ⌜ now (rec .exit) ≡ changeOf form kind (now (rec .entry)) byte change ⌝ }
 {
     let n = num(rec, 1);
     let h = form::header_of(form);
     let e = form::record_words(form, kind);
-    body_add(&mut rec[h..e], kind, n, byte, reference);
-    rec[1] = n as u32 + 1;
-}
-
-// The child for a byte taken out of a body with n children.
-fn body_remove(body: &mut [u32], kind: u32, n: usize, byte: u8)
-    requires { ⌜ BodyFits kind (now body) n × (0 < childOf kind (now body) n byte) ⌝ }
-    ensures { λ _. ⌜ now (body .exit) ≡ bodyRemove kind (now (body .entry)) n byte ⌝ }
-{
-    if kind <= 2 {
-        let row = kind::row_of(kind);
-        inner_node_sorted::sorted_remove(body, row.children as usize, n, byte as u32);
-    } else if kind == 3 {
-        inner_node_indirect::indirect_remove(body, byte as usize);
-    } else {
-        inner_node_direct::direct_set(body, byte as usize, 0);
-    }
-}
-
-// The child for a byte taken out.
-pub fn remove_child(rec: &mut [u32], form: Form, kind: u32, byte: u8)
-    requires { ⌜ InnerFits form kind (now rec) × (0 < childAt form kind (now rec) byte) ⌝ }
-    ensures { λ _. ⌜ now (rec .exit) ≡ removeOf form kind (now (rec .entry)) byte ⌝ }
-{
-    let n = num(rec, 1);
-    let h = form::header_of(form);
-    let e = form::record_words(form, kind);
-    body_remove(&mut rec[h..e], kind, n, byte);
-    rec[1] = (n - 1) as u32;
-}
-
-// Another reference for the child of a byte, in a body with n children.
-fn body_replace(body: &mut [u32], kind: u32, n: usize, byte: u8, reference: u32)
-    requires { ⌜ BodyFits kind (now body) n × (0 < childOf kind (now body) n byte) ⌝ }
-    ensures { λ _. ⌜ now (body .exit) ≡ bodyReplace kind (now (body .entry)) n byte reference ⌝ }
-{
-    if kind <= 2 {
-        let row = kind::row_of(kind);
-        inner_node_sorted::sorted_replace(body, row.children as usize, n, byte as u32, reference);
-    } else if kind == 3 {
-        inner_node_indirect::indirect_replace(body, byte as usize, reference);
-    } else {
-        inner_node_direct::direct_set(body, byte as usize, reference);
-    }
-}
-
-// Another reference for the child of a byte.
-pub fn replace_child(rec: &mut [u32], form: Form, kind: u32, byte: u8, reference: u32)
-    requires { ⌜ InnerFits form kind (now rec) × (0 < childAt form kind (now rec) byte) ⌝ }
-    ensures { λ _. ⌜ now (rec .exit) ≡ replaceOf form kind (now (rec .entry)) byte reference ⌝ }
-{
-    let n = num(rec, 1);
-    let h = form::header_of(form);
-    let e = form::record_words(form, kind);
-    body_replace(&mut rec[h..e], kind, n, byte, reference);
+    body_change(&mut rec[h..e], kind, n, byte, change);
+    rec[1] = count_in(change, n as u32);
 }
 
 // The references of a body with n children by their bytes.

@@ -20,10 +20,11 @@ use Rattle.art.specs.Refs.{Refs, add-ref}
 use Rattle.art.specs.Chain.{Links, leaf-ref}
 use Rattle.art.specs.Points.{cell-refs, ChildAt, IntoFits}
 use Rattle.art.proofs.Stores.{used-not, write-same, write-write, write-comm}
+use Rattle.edits.specs.declared.representation.Change.the-variants.{Add}
 use Rattle.view.specs.Pools.{FreeAt}
 use Rattle.points.specs.There.{InnerHere, UpThere}
 use Rattle.points.specs.declared.insert_point.Up.{Up}
-use Rattle.writes.specs.At.{addAt, moveAt, Roomy, Moves}
+use Rattle.writes.specs.At.{changeAt, moveAt, Roomy, Moves}
 use Rattle.writes.specs.Above.{linkUp}
 use Rattle.states.specs.State.{State}
 use Rattle.states.proofs.Steps.{state-here, state-count-word, state-zero, state-add, state-move, state-clear}
@@ -87,9 +88,9 @@ module _ {f : Frame} {words keys : List ℕ} {σ : Store Held} {links : Links} {
     pub add-ready : Roomy f words (placeAt ref)
     add-ready = subst (Roomy f words) (sym into-place) (record { here = into-here; room = add-room })
 
-    pub add-state : byte < 256 → (n : ℕ) → inPool f (leaf-place n) ≡ true → State f (addAt f (placeAt ref) byte (leaf-ref n) words) keys (write σ x (added n)) links root count
+    pub add-state : byte < 256 → (n : ℕ) → inPool f (leaf-place n) ≡ true → State f (changeAt f (placeAt ref) byte (Add (leaf-ref n)) words) keys (write σ x (added n)) links root count
     add-state low n pool =
-        subst (λ (y : Place). State f (addAt f y byte (leaf-ref n) words) keys (write σ x (added n)) links root count) (sym into-place)
+        subst (λ (y : Place). State f (changeAt f y byte (Add (leaf-ref n)) words) keys (write σ x (added n)) links root count) (sym into-place)
         (state-add s (ref % 8) (ref / 8) len st rs byte (leaf-place n) (fits .record-at .shown) (fits .missing) low (omega (arith, add-room, into-count)) pool)
 
   -- ── moved to a larger kind ──

@@ -13,11 +13,12 @@ use Rattle.frames.specs.declared.frame.Frame.{Frame}
 use Rattle.records.specs.Own.{prefixAt}
 use Rattle.art.specs.Stores.{Place, leaf-place, inner-place}
 use Rattle.art.specs.Chain.{leaf-ref}
+use Rattle.edits.specs.declared.representation.Change.the-variants as change
 use Rattle.pools.specs.Link.{LeafOrEnd, setTrailer}
 use Rattle.whole.specs.Witness.{tagAt, LeafSeen}
 use Rattle.points.specs.declared.insert_point.Up.{Up}
 use Rattle.points.specs.There.{InnerHere, UpThere}
-use Rattle.writes.specs.At.{addAt, prefixedAt, branchAt, moveAt, clearAt, Roomy, InnerPlace, Moves}
+use Rattle.writes.specs.At.{changeAt, prefixedAt, branchAt, moveAt, clearAt, Roomy, InnerPlace, Moves}
 use Rattle.writes.specs.Leaf.{leafIn}
 use Rattle.writes.specs.Above.{linkUp}
 use Rattle.insert.specs.declared.plan.Site.{Site}
@@ -33,7 +34,7 @@ cutAt f (inner-place k n) c t d words =
 
 -- a full record moved, with its new child, and freed
 unfoldable pub grown : Frame → (old new : Place) (byte leaf : ℕ) → List ℕ → List ℕ
-grown f old new byte leaf words = clearAt f old (addAt f new byte leaf (moveAt f old new words))
+grown f old new byte leaf words = clearAt f old (changeAt f new byte (change.Add leaf) (moveAt f old new words))
 
 -- a branching where the tag and t, a tag below, part: depth d, and c bytes on
 unfoldable pub forked : Frame → (below new : ℕ) (tag t : List ℕ) (d c leaf : ℕ) → List ℕ → List ℕ
@@ -43,7 +44,7 @@ forked f below new tag t d c leaf words =
 -- leaf is the reference to the new leaf
 unfoldable pub hung : Frame → (keys tag : List ℕ) → Site → ℕ → List ℕ → List ℕ
 hung f keys tag Root leaf words = setTrailer 11 leaf words
-hung f keys tag (Add ref byte) leaf words = addAt f (placeAt ref) byte leaf words
+hung f keys tag (Add ref byte) leaf words = changeAt f (placeAt ref) byte (change.Add leaf) words
 hung f keys tag (Grow up old new byte) leaf words = linkUp f up new (grown f (placeAt old) (placeAt new) byte leaf words)
 hung f keys tag (Fork up below new witness d c) leaf words = linkUp f up new (forked f below new tag (tagAt f words keys witness) d c leaf words)
 

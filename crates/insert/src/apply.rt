@@ -8,6 +8,7 @@ ghost use Rattle.writes.specs.Leaf.{keyIn};
 ghost use Rattle.writes.specs.Above.{linkUp};
 ghost use Rattle.insert.specs.Apply.{cutAt, CutOrLeaf, grown, GrowReady, forked, ForkReady, hung, SiteReady, newWords, NewReady};
 use super::plan::Site;
+use edits::representation::Change;
 use frames::frame;
 use frames::frame::Frame;
 use points::insert_point::Up;
@@ -65,7 +66,7 @@ fn grow(words: &mut [u32], keys: &[u8], f: Frame, up: Up, old: u32, new: u32, by
     ensures { λ _. ⌜ (now (words .exit) ≡ linkUp f up new (grown f (placeAt old) (placeAt new) byte leaf (now (words .entry)))) × FrameOf f (now (words .exit)) (now (keys .entry)) ⌝ }
 {
     representation::move_at(words, keys, f, old, new);
-    representation::add_at(words, keys, f, new, byte, leaf);
+    representation::change_at(words, keys, f, new, byte, Change::Add(leaf));
     representation::clear_at(words, keys, f, old);
     above::link_up(words, keys, f, up, new);
 }
@@ -81,7 +82,7 @@ fn hang(words: &mut [u32], keys: &[u8], f: Frame, tag: &[u8], site: Site, leaf: 
             return;
         }
         Site::Add(reference, byte) => {
-            representation::add_at(words, keys, f, reference, byte, leaf);
+            representation::change_at(words, keys, f, reference, byte, Change::Add(leaf));
             return;
         }
         Site::Grow(up, old, new, byte) => {

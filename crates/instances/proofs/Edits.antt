@@ -10,12 +10,13 @@ use Rattle.frames.proofs.KindTable.{kind-rules}
 use Rattle.records.specs.Row.{directRow, Climbs}
 use Rattle.records.specs.View.{innerCell}
 use Rattle.art.specs.Stores.{leaf-place, inner-cell}
+use Rattle.edits.specs.declared.representation.Change.the-variants.{Add, Remove, Replace}
 use Rattle.edits.specs.Head.{setPrefix}
-use Rattle.edits.specs.Record.{addOf, removeOf, replaceOf, spreadOf, buildRec}
+use Rattle.edits.specs.Record.{changeOf, spreadOf, buildRec}
 use Rattle.edits.specs.Rows.{Row}
 use Rattle.edits.specs.Inner.{PrefixFits, Inner}
-use Rattle.edits.proofs.Inners.{add-inner, remove-inner, replace-inner, prefix-inner, build-inner, move-inner}
-use Rattle.edits.proofs.Cells.{add-cell, remove-cell, replace-cell, prefix-cell, move-cell, build-cell}
+use Rattle.edits.proofs.Inners.{change-inner, prefix-inner, build-inner, move-inner}
+use Rattle.edits.proofs.Cells.{change-cell, prefix-cell, move-cell, build-cell}
 use Rattle.instances.specs.Opened.{opened}
 
 -- ── the record ──
@@ -50,19 +51,19 @@ module _ (kind : ℕ) (low : 1 ≤ kind) (high : kind ≤ 4) where
   built = build-inner (formOf 1) eight kind run row low high run-fits (omega arith) (omega (arith, kind-rules kind low high .least)) climbs
 
   -- a child for D
-  added : Inner (formOf 1) kind (addOf (formOf 1) kind (buildRec (formOf 1) kind run row) 68 29) run ((65, 5) ∷ (66, 13) ∷ (67, 21) ∷ (68, 29) ∷ [])
+  added : Inner (formOf 1) kind (changeOf (formOf 1) kind (buildRec (formOf 1) kind run row) 68 (Add 29)) run ((65, 5) ∷ (66, 13) ∷ (67, 21) ∷ (68, 29) ∷ [])
   unfolding opened
-  added = add-inner eight built 68 29 (omega (arith, kind-rules kind low high .least)) (omega arith) refl (omega arith)
+  added = change-inner eight built 68 (omega arith) (Add 29) (omega (arith, kind-rules kind low high .least), (refl, omega arith)) (omega arith)
 
   -- none for C
-  removed : Inner (formOf 1) kind (removeOf (formOf 1) kind (buildRec (formOf 1) kind run row) 67) run ((65, 5) ∷ (66, 13) ∷ [])
+  removed : Inner (formOf 1) kind (changeOf (formOf 1) kind (buildRec (formOf 1) kind run row) 67 Remove) run ((65, 5) ∷ (66, 13) ∷ [])
   unfolding opened
-  removed = remove-inner eight built 67 (omega arith) (omega arith) (omega arith)
+  removed = change-inner eight built 67 (omega arith) Remove (omega arith) (omega arith)
 
   -- another for B
-  replaced : Inner (formOf 1) kind (replaceOf (formOf 1) kind (buildRec (formOf 1) kind run row) 66 29) run ((65, 5) ∷ (66, 29) ∷ (67, 21) ∷ [])
+  replaced : Inner (formOf 1) kind (changeOf (formOf 1) kind (buildRec (formOf 1) kind run row) 66 (Replace 29)) run ((65, 5) ∷ (66, 29) ∷ (67, 21) ∷ [])
   unfolding opened
-  replaced = replace-inner eight built 66 29 (omega arith) (omega arith) (omega arith)
+  replaced = change-inner eight built 66 (omega arith) (Replace 29) (omega arith, omega arith) (omega arith)
 
   -- no run
   bared : Inner (formOf 1) kind (setPrefix (formOf 1) (prefixOf []) (buildRec (formOf 1) kind run row)) (prefixOf []) row
@@ -77,19 +78,19 @@ module _ (kind : ℕ) (low : 1 ≤ kind) (high : kind ≤ 4) where
   unfolding opened
   built-cell = build-cell (formOf 1) eight kind run row low high run-fits (omega arith) (omega (arith, kind-rules kind low high .least)) climbs
 
-  added-cell : innerCell (formOf 1) kind (addOf (formOf 1) kind (buildRec (formOf 1) kind run row) 68 29)
+  added-cell : innerCell (formOf 1) kind (changeOf (formOf 1) kind (buildRec (formOf 1) kind run row) 68 (Add 29))
       ≡ inner-cell 2 (76 ∷ 49 ∷ []) ((65, leaf-place 0) ∷ (66, leaf-place 1) ∷ (67, leaf-place 2) ∷ (68, leaf-place 3) ∷ [])
   unfolding opened
-  added-cell = add-cell eight built 68 29 (omega (arith, kind-rules kind low high .least)) (omega arith) refl (omega arith)
+  added-cell = change-cell eight built 68 (omega arith) (Add 29) (omega (arith, kind-rules kind low high .least), (refl, omega arith)) (omega arith)
 
-  removed-cell : innerCell (formOf 1) kind (removeOf (formOf 1) kind (buildRec (formOf 1) kind run row) 67) ≡ inner-cell 2 (76 ∷ 49 ∷ []) ((65, leaf-place 0) ∷ (66, leaf-place 1) ∷ [])
+  removed-cell : innerCell (formOf 1) kind (changeOf (formOf 1) kind (buildRec (formOf 1) kind run row) 67 Remove) ≡ inner-cell 2 (76 ∷ 49 ∷ []) ((65, leaf-place 0) ∷ (66, leaf-place 1) ∷ [])
   unfolding opened
-  removed-cell = remove-cell eight built 67 (omega arith) (omega arith) (omega arith)
+  removed-cell = change-cell eight built 67 (omega arith) Remove (omega arith) (omega arith)
 
-  replaced-cell : innerCell (formOf 1) kind (replaceOf (formOf 1) kind (buildRec (formOf 1) kind run row) 66 29)
+  replaced-cell : innerCell (formOf 1) kind (changeOf (formOf 1) kind (buildRec (formOf 1) kind run row) 66 (Replace 29))
       ≡ inner-cell 2 (76 ∷ 49 ∷ []) ((65, leaf-place 0) ∷ (66, leaf-place 3) ∷ (67, leaf-place 2) ∷ [])
   unfolding opened
-  replaced-cell = replace-cell eight built 66 29 (omega arith) (omega arith) (omega arith)
+  replaced-cell = change-cell eight built 66 (omega arith) (Replace 29) (omega arith, omega arith) (omega arith)
 
   bared-cell : innerCell (formOf 1) kind (setPrefix (formOf 1) (prefixOf []) (buildRec (formOf 1) kind run row)) ≡ inner-cell 0 [] ((65, leaf-place 0) ∷ (66, leaf-place 1) ∷ (67, leaf-place 2) ∷ [])
   unfolding opened

@@ -18,7 +18,8 @@ use Rattle.art.specs.Points.{store-of}
 use Rattle.art.specs.Calls.{OnceOf}
 use Rattle.view.specs.Links.{linksOf}
 use Rattle.whole.specs.Sound.{Rooted, Sound}
-use Rattle.writes.specs.At.{addAt, removeAt, replaceAt, prefixedAt, branchAt, moveAt, dropAt, clearAt}
+use Rattle.edits.specs.declared.representation.Change.the-variants.{Add, Remove, Replace}
+use Rattle.writes.specs.At.{changeAt, prefixedAt, branchAt, moveAt, dropAt, clearAt}
 use Rattle.writes.specs.Leaf.{leafIn, keyIn, leafOut, keyOut, totalAt}
 use Rattle.states.specs.State.{State}
 use Rattle.states.proofs.Steps.{state-add, state-remove, state-replace, state-prefix, state-branch, state-move, state-drop, state-clear, state-leaf-in, state-leaf-out, state-total}
@@ -55,16 +56,16 @@ abbrev three-refs : Refs
 three-refs = (65, leaf-place 0) ∷ (66, leaf-place 1) ∷ (67, leaf-place 2) ∷ []
 
 -- a child for C added, and taken out
-added : Written pair (room .words) (addAt (frame (room .words)) (inner-place 1 0) 67 21 (room .words)) (room .keys) (links-in (room .words)) (inner-place 1 0) (inner-cell 0 [] three-refs)
+added : Written pair (room .words) (changeAt (frame (room .words)) (inner-place 1 0) 67 (Add 21) (room .words)) (room .keys) (links-in (room .words)) (inner-place 1 0) (inner-cell 0 [] three-refs)
 unfolding opened
 added = state-add (treed room-sound room-tree) 1 0 0 [] two-refs 67 (leaf-place 2) refl refl (omega arith) (omega arith) refl
 
-removed : Written triple (three .words) (removeAt (frame (three .words)) (inner-place 1 0) 67 (three .words)) (three .keys) (links-in (three .words)) (inner-place 1 0) (inner-cell 0 [] two-refs)
+removed : Written triple (three .words) (changeAt (frame (three .words)) (inner-place 1 0) 67 Remove (three .words)) (three .keys) (links-in (three .words)) (inner-place 1 0) (inner-cell 0 [] two-refs)
 unfolding opened
 removed = state-remove (treed three-sound three-tree) 1 0 0 [] three-refs 67 (leaf-place 2) refl refl (omega arith)
 
 -- leaf 2 in the place of leaf 1
-replaced : Written pair (room .words) (replaceAt (frame (room .words)) (inner-place 1 0) 66 21 (room .words)) (room .keys) (links-in (room .words)) (inner-place 1 0)
+replaced : Written pair (room .words) (changeAt (frame (room .words)) (inner-place 1 0) 66 (Replace 21) (room .words)) (room .keys) (links-in (room .words)) (inner-place 1 0)
     (inner-cell 0 [] ((65, leaf-place 0) ∷ (66, leaf-place 2) ∷ []))
 unfolding opened
 replaced = state-replace (treed room-sound room-tree) 1 0 0 [] two-refs 66 (leaf-place 1) (leaf-place 2) refl refl refl

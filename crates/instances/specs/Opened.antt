@@ -14,9 +14,9 @@ use Rattle.frames.specs.Kind.{kindRow}
 use Rattle.records.specs.Own.{prefixAt, headOk, sortedOk, indirectOk, directOk, bodyOk, innerOk, sortedChild, indirectChild, childOf, childAt, leafOk, totalOf}
 use Rattle.records.specs.Row.{bodyRow}
 use Rattle.records.specs.View.{cellOf}
-use Rattle.edits.specs.Body.{sortedAdd, sortedRemove, sortedReplace, slotAdd, slotRemove, slotReplace, bodyAdd, bodyRemove, bodyReplace, sortedSpread, slotSpread, bodySpread, sortedBody, slotBody, bodyOf}
+use Rattle.edits.specs.Body.{sortedAdd, sortedRemove, sortedReplace, slotAdd, slotRemove, slotReplace, bodyChange, sortedSpread, slotSpread, bodySpread, sortedBody, slotBody, bodyOf}
 use Rattle.edits.specs.Head.{setPrefix, setHead}
-use Rattle.edits.specs.Record.{addOf, removeOf, replaceOf, spreadOf, buildRec}
+use Rattle.edits.specs.Record.{changeOf, spreadOf, buildRec}
 use Rattle.pools.specs.Leaf.{leafWords, setTotal}
 use Rattle.pools.specs.Link.{setTrailer, setNext, setPrevious, setLink}
 use Rattle.pools.specs.Pool.{lowestFree, freeKind}
@@ -33,7 +33,7 @@ use Rattle.whole.specs.Visit.{leafVisit, turnAt, rowEnd, rowBy, recordBy}
 use Rattle.whole.specs.Witness.{tagAt, goesOn, storedAgrees}
 use Rattle.range.specs.Range as range
 use Rattle.points.specs.Point as points
-use Rattle.writes.specs.At.{addAt, removeAt, replaceAt, prefixedAt, branchAt, moveAt, dropAt, clearAt}
+use Rattle.writes.specs.At.{changeAt, prefixedAt, branchAt, moveAt, dropAt, clearAt}
 use Rattle.writes.specs.Leaf.{leafIn, keyIn, leafOut, keyOut, totalAt}
 use Rattle.insert.specs.Apply.{grown, forked, hung, newWords}
 use Rattle.insert.specs.Insert.{insertSound, insertChecked, insertOf}
@@ -59,7 +59,7 @@ unfolding prefixAt headOk sortedOk indirectOk directOk bodyOk innerOk sortedChil
 records-opened = tt
 
 unfoldable pub edits-opened : Unit {0}
-unfolding sortedAdd sortedRemove sortedReplace slotAdd slotRemove slotReplace bodyAdd bodyRemove bodyReplace sortedSpread slotSpread bodySpread sortedBody slotBody bodyOf setPrefix setHead addOf removeOf replaceOf spreadOf buildRec
+unfolding sortedAdd sortedRemove sortedReplace slotAdd slotRemove slotReplace bodyChange sortedSpread slotSpread bodySpread sortedBody slotBody bodyOf setPrefix setHead changeOf spreadOf buildRec
 edits-opened = tt
 
 unfoldable pub pools-opened : Unit {0}
@@ -79,7 +79,7 @@ unfolding range.below range.leafStep range.stepOf range.afterFrom range.afterOf 
 points-opened = tt
 
 unfoldable pub writes-opened : Unit {0}
-unfolding addAt removeAt replaceAt prefixedAt branchAt moveAt dropAt clearAt leafIn keyIn leafOut keyOut totalAt
+unfolding changeAt prefixedAt branchAt moveAt dropAt clearAt leafIn keyIn leafOut keyOut totalAt
 writes-opened = tt
 
 unfoldable pub calls-opened : Unit {0}

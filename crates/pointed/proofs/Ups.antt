@@ -16,11 +16,12 @@ use Rattle.art.specs.Chain.{Links}
 use Rattle.art.specs.Points as art
 use Rattle.art.specs.Points.{UpFits, ChildAt, new-root, relink-up}
 use Rattle.art.proofs.Stores.{used-not, write-other}
+use Rattle.edits.specs.declared.representation.Change.the-variants.{Replace}
 use Rattle.tree.proofs.Arrivals.{inner-named}
 use Rattle.points.specs.There.{HasChild, UpThere}
 use Rattle.points.specs.declared.insert_point.Up.{Up}
 use Rattle.points.specs.declared.insert_point.Up.the-variants.{Top, Via}
-use Rattle.writes.specs.At.{replaceAt}
+use Rattle.writes.specs.At.{changeAt}
 use Rattle.writes.specs.Above.{linkUp}
 use Rattle.states.specs.State.{State}
 use Rattle.states.proofs.Steps.{state-child, state-replace, state-root}
@@ -98,6 +99,6 @@ module _ {f : Frame} {words keys : List ℕ} {τ : Store Held} {links : Links} {
   up-linked σ Top y new e h pool = state-root s (refOf new)
   up-linked σ (Via above byte) y new e h pool =
       let x : Place = inner-place (above % 8) (above / 8) in
-      subst (λ (p : Place). State f (replaceAt f p byte (refOf new) words) keys (write τ x (re-cell (σ x) byte new)) links root count) (sym (inner-here above (subst Used (sym (e ∙ h .parent .shown)) tt)))
-      (subst (λ (c : Cell Held). State f (replaceAt f x byte (refOf new) words) keys (write τ x c) links root count) (ap (λ (c : Cell Held). re-cell c byte new) (sym (h .parent .shown)))
+      subst (λ (p : Place). State f (changeAt f p byte (Replace (refOf new)) words) keys (write τ x (re-cell (σ x) byte new)) links root count) (sym (inner-here above (subst Used (sym (e ∙ h .parent .shown)) tt)))
+      (subst (λ (c : Cell Held). State f (changeAt f x byte (Replace (refOf new)) words) keys (write τ x c) links root count) (ap (λ (c : Cell Held). re-cell c byte new) (sym (h .parent .shown)))
       (state-replace s (above % 8) (above / 8) (h .len) (h .parent .stored) (h .rs) byte y new (e ∙ h .parent .shown) (h .child) pool))

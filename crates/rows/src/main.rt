@@ -7,6 +7,7 @@ ghost use Prim.Native.Nat.{_≤_, _<_};
 ghost use lib.ListN.{length};
 ghost use Rattle.records.specs.Own.{InnerFits, childAt};
 use edits::representation as edit;
+use edits::representation::Change;
 use frames::form;
 use frames::form::Form;
 use frames::kind;
@@ -275,7 +276,7 @@ fn add(rec: &mut [u32], form: Form, kind: u32, byte: u8, reference: u32) -> bool
     if child_at(rec, form, kind, byte) != 0 {
         return false;
     }
-    edit::add_child(rec, form, kind, byte, reference);
+    edit::change_child(rec, form, kind, byte, Change::Add(reference));
     true
 }
 
@@ -289,7 +290,7 @@ fn replace(rec: &mut [u32], form: Form, kind: u32, byte: u8, reference: u32) -> 
     if child_at(rec, form, kind, byte) == 0 {
         return false;
     }
-    edit::replace_child(rec, form, kind, byte, reference);
+    edit::change_child(rec, form, kind, byte, Change::Replace(reference));
     true
 }
 
@@ -303,7 +304,7 @@ fn remove(rec: &mut [u32], form: Form, kind: u32, byte: u8) -> bool
     if child_at(rec, form, kind, byte) == 0 {
         return false;
     }
-    edit::remove_child(rec, form, kind, byte);
+    edit::change_child(rec, form, kind, byte, Change::Remove);
     true
 }
 

@@ -12,8 +12,8 @@ use Rattle.records.specs.Own.{prefixAt, headOk, sortedOk, bodyOk, innerOk, sort
 use Rattle.records.specs.Row.{bodyRow}
 use Rattle.records.specs.View.{cellOf}
 use Rattle.edits.specs.Head.{setPrefix, setHead}
-use Rattle.edits.specs.Body.{sortedAdd, sortedRemove, bodyAdd, bodyRemove, sortedBody, bodyOf}
-use Rattle.edits.specs.Record.{addOf, removeOf, buildRec}
+use Rattle.edits.specs.Body.{sortedAdd, sortedRemove, bodyChange, sortedBody, bodyOf}
+use Rattle.edits.specs.Record.{changeOf, buildRec}
 use Rattle.pools.specs.Pool.{lowestFree, freeKind}
 use Rattle.pools.specs.Link.{setTrailer, setLink, setNext, setPrevious}
 use Rattle.pools.specs.Leaf.{leafWords}
@@ -28,7 +28,7 @@ use Rattle.whole.specs.Sweep.{sweptAt, sweptPool, swept}
 use Rattle.whole.specs.Check.{rootWay, wayWell, wholeBy, checkOf}
 use Rattle.range.specs.Range as range
 use Rattle.points.specs.Point as points
-use Rattle.writes.specs.At.{addAt, removeAt, prefixedAt, branchAt, clearAt}
+use Rattle.writes.specs.At.{changeAt, prefixedAt, branchAt, clearAt}
 use Rattle.writes.specs.Leaf.{leafIn, keyIn, leafOut, keyOut}
 use Rattle.insert.specs.Plan as insert-plan
 use Rattle.insert.specs.Apply.{forked, hung, newWords}
@@ -41,5 +41,5 @@ use Rattle.sheet.specs.Sheet.{step, givenFrom, wantedOf, given, wanted, 
 
 -- rows a to l, with every block on the way sound
 pub sheet : given rows ≡ wanted rows
-unfolding prefixOf splitOf mergeOf matchOf splice shiftIn shiftOut kindRow formKnown formOf storedOf formFits trailerFits frameFits frameOf prefixAt headOk sortedOk bodyOk innerOk sortedChild childOf childAt leafOk totalOf bodyRow cellOf setPrefix setHead sortedAdd sortedRemove bodyAdd bodyRemove sortedBody bodyOf addOf removeOf buildRec lowestFree freeKind setTrailer setLink setNext setPrevious leafWords startFits trailerWords startOf arrivalAt withFrame edgeRef edgeStep edgeOf walk.leafAnswer walk.innerStep walk.stepOf walk.walkOf placesIn fresh reached tagAt goesOn storedAgrees leafVisit turnAt rowEnd rowBy recordBy sweptAt sweptPool swept rootWay wayWell wholeBy checkOf range.below range.leafStep range.stepOf range.afterFrom range.afterOf points.leafPoint points.runOf points.innerStep points.stepOf points.pointFrom points.pointOf addAt removeAt prefixedAt branchAt clearAt leafIn keyIn leafOut keyOut insert-plan.intoChoice insert-plan.forkChoice insert-plan.leafPlan insert-plan.pointPlan insert-plan.planOf forked hung newWords insertSound insertChecked insertOf delete-plan.otherEntry delete-plan.cutUnder delete-plan.pointPlan delete-plan.planOf merged pruned goneWords deleteSound deleteChecked deleteOf order tag-dec begins-dec ℕ-discrete step givenFrom wantedOf given wanted rows
+unfolding prefixOf splitOf mergeOf matchOf splice shiftIn shiftOut kindRow formKnown formOf storedOf formFits trailerFits frameFits frameOf prefixAt headOk sortedOk bodyOk innerOk sortedChild childOf childAt leafOk totalOf bodyRow cellOf setPrefix setHead sortedAdd sortedRemove bodyChange sortedBody bodyOf changeOf buildRec lowestFree freeKind setTrailer setLink setNext setPrevious leafWords startFits trailerWords startOf arrivalAt withFrame edgeRef edgeStep edgeOf walk.leafAnswer walk.innerStep walk.stepOf walk.walkOf placesIn fresh reached tagAt goesOn storedAgrees leafVisit turnAt rowEnd rowBy recordBy sweptAt sweptPool swept rootWay wayWell wholeBy checkOf range.below range.leafStep range.stepOf range.afterFrom range.afterOf points.leafPoint points.runOf points.innerStep points.stepOf points.pointFrom points.pointOf changeAt prefixedAt branchAt clearAt leafIn keyIn leafOut keyOut insert-plan.intoChoice insert-plan.forkChoice insert-plan.leafPlan insert-plan.pointPlan insert-plan.planOf forked hung newWords insertSound insertChecked insertOf delete-plan.otherEntry delete-plan.cutUnder delete-plan.pointPlan delete-plan.planOf merged pruned goneWords deleteSound deleteChecked deleteOf order tag-dec begins-dec ℕ-discrete step givenFrom wantedOf given wanted rows
 sheet = refl

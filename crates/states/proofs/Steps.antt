@@ -23,13 +23,16 @@ use Rattle.art.specs.Tags.{Tag}
 use Rattle.art.specs.Stores.{Place, leaf-place, inner-place, Store, Used, unused, leaf-cell, inner-cell, write}
 use Rattle.art.specs.Refs.{Refs, find-ref, re-ref, add-ref, pair-ref, cut-ref}
 use Rattle.art.specs.Chain.{Links, leaf-ref, link-in, link-out}
+use Rattle.edits.specs.Change.{countIn}
 use Rattle.edits.specs.Head.{setPrefix}
-use Rattle.edits.specs.Record.{addOf, removeOf, replaceOf, spreadOf, buildRec}
-use Rattle.edits.specs.Rows.{Row, rowInsert, rowPair, rowRemove, rowReplace}
+use Rattle.edits.specs.declared.representation.Change.{Change}
+use Rattle.edits.specs.declared.representation.Change.the-variants.{Add, Remove, Replace}
+use Rattle.edits.specs.Record.{changeOf, spreadOf, buildRec}
+use Rattle.edits.specs.Rows.{Row, rowPair, rowRemove, rowChange, refsChange, Takes}
 use Rattle.edits.proofs.Bodies.{spread-at-byte}
 use Rattle.edits.specs.Inner.{PrefixFits, Inner}
-use Rattle.edits.proofs.Inners.{inner-holds, inner-size, inner-climbs, inner-child, inner-fits, spread-of, add-inner, remove-inner, replace-inner, prefix-inner, build-inner, move-inner}
-use Rattle.edits.proofs.RowChanges.{insert-places, pair-places, pair-climbs, remove-length, remove-climbs, remove-places, replace-places, table-remove}
+use Rattle.edits.proofs.Inners.{inner-holds, inner-size, inner-two, inner-climbs, inner-child, inner-fits, spread-of, change-inner, prefix-inner, build-inner, move-inner}
+use Rattle.edits.proofs.RowChanges.{pair-places, pair-climbs, remove-length, remove-climbs, remove-places, change-places, table-remove}
 use Rattle.lists.specs.Edit.{padded}
 use Rattle.pools.specs.Leaf.{leafWords, setTotal}
 use Rattle.pools.specs.Link.{setTrailer}
@@ -42,7 +45,7 @@ use Rattle.view.proofs.Chains.{total-links}
 use Rattle.view.proofs.Trailers.{trailer-same, trailer-other}
 use Rattle.whole.specs.Witness.{tagAt, LeafSeen}
 use Rattle.points.specs.There.{InnerHere, HasChild}
-use Rattle.writes.specs.At.{addAt, removeAt, replaceAt, prefixedAt, branchAt, moveAt, dropAt, clearAt}
+use Rattle.writes.specs.At.{changeAt, prefixedAt, branchAt, moveAt, dropAt, clearAt}
 use Rattle.writes.specs.Leaf.{leafIn, keyIn, leafOut, keyOut, totalAt}
 use Rattle.writes.proofs.Spots.{frame-eight}
 use Rattle.states.specs.State.{State}
@@ -109,40 +112,39 @@ module _ {f : Frame} {words keys : List ℕ} {σ : Store Held} {links : Links} {
   state-zero x pool e = sym (shown-at s x) ∙ cell-free f words keys x e
 
   -- ── inner records written ──
+  -- the children changed; and by the change, as the cells tell it
+  state-change : (k n len : ℕ) (st : List ℕ) (rs : Refs) (b : ℕ) (change : Change) → σ (inner-place k n) ≡ inner-cell len st rs → b < 256
+      → Takes (childrenOf k) b change (rowAt (f .form) k (recordAt f words (inner-place k n))) → 2 ≤ countIn change (length rs)
+      → State f (changeAt f (inner-place k n) b change words) keys (write σ (inner-place k n) (inner-cell len st (refsChange b change rs))) links root count
+  unfolding changeAt
+  state-change k n len st rs b change e low takes two =
+      let h = stands s k n len st rs e in
+      let rec = recordAt f words (inner-place k n) in
+      let row = rowAt (f .form) k rec in
+      inner-put s k n (changeOf (f .form) k rec b change) (prefixAt (f .form) rec) (rowChange b change row) len st (refsChange b change rs) (h .pool)
+      (change-inner (frame-eight (s .frame)) (h .own) b low change takes (subst (λ (m : ℕ). 2 ≤ countIn change m) (sym (h .size)) two)) (h .len-is) (h .stored-is) (change-places b change row ∙ ap (refsChange b change) (h .refs-are))
+
   pub state-add : (k n len : ℕ) (st : List ℕ) (rs : Refs) (b : ℕ) (y : Place) → σ (inner-place k n) ≡ inner-cell len st rs → find-ref rs b ≡ none → b < 256 → length rs < childrenOf k
-      → inPool f y ≡ true → State f (addAt f (inner-place k n) b (refOf y) words) keys (write σ (inner-place k n) (inner-cell len st (add-ref b y rs))) links root count
-  unfolding addAt
+      → inPool f y ≡ true → State f (changeAt f (inner-place k n) b (Add (refOf y)) words) keys (write σ (inner-place k n) (inner-cell len st (add-ref b y rs))) links root count
   state-add k n len st rs b y e g low room pool =
       let h = stands s k n len st rs e in
-      let rec = recordAt f words (inner-place k n) in
-      let row = rowAt (f .form) k rec in
-      let none-there : refFor b row ≡ 0 = find-none b row (ap (λ (l : Refs). find-ref l b) (h .refs-are) ∙ g) in
-      inner-put s k n (addOf (f .form) k rec b (refOf y)) (prefixAt (f .form) rec) (rowInsert b (refOf y) row) len st (add-ref b y rs) (h .pool)
-      (add-inner (frame-eight (s .frame)) (h .own) b (refOf y) (omega (arith, h .size)) low none-there (ref-some (s .frame) y pool)) (h .len-is) (h .stored-is)
-      (insert-places b (refOf y) row ∙ ap₂ (add-ref b) (place-ref f y pool) (h .refs-are))
+      let none-there = find-none b (rowAt (f .form) k (recordAt f words (inner-place k n))) (ap (λ (l : Refs). find-ref l b) (h .refs-are) ∙ g) in
+      subst (λ (z : Place). State f (changeAt f (inner-place k n) b (Add (refOf y)) words) keys (write σ (inner-place k n) (inner-cell len st (add-ref b z rs))) links root count) (place-ref f y pool)
+      (state-change k n len st rs b (Add (refOf y)) e low (omega (arith, h .size), (none-there, ref-some (s .frame) y pool)) (omega (arith, h .size, inner-two (h .own))))
 
   pub state-remove : (k n len : ℕ) (st : List ℕ) (rs : Refs) (b : ℕ) (y : Place) → σ (inner-place k n) ≡ inner-cell len st rs → find-ref rs b ≡ some y → 3 ≤ length rs
-      → State f (removeAt f (inner-place k n) b words) keys (write σ (inner-place k n) (inner-cell len st (cut-ref b rs))) links root count
-  unfolding removeAt
+      → State f (changeAt f (inner-place k n) b Remove words) keys (write σ (inner-place k n) (inner-cell len st (cut-ref b rs))) links root count
   state-remove k n len st rs b y e g three =
-      let h = stands s k n len st rs e in
       let c = child-found k n len st rs b y e g in
-      let rec = recordAt f words (inner-place k n) in
-      let row = rowAt (f .form) k rec in
-      inner-put s k n (removeOf (f .form) k rec b) (prefixAt (f .form) rec) (rowRemove b row) len st (cut-ref b rs) (h .pool)
-      (remove-inner (frame-eight (s .frame)) (h .own) b (omega (arith, h .size)) (c .0) (c .1)) (h .len-is) (h .stored-is) (remove-places b row ∙ ap (cut-ref b) (h .refs-are))
+      state-change k n len st rs b Remove e (c .0) (c .1) (omega arith)
 
   pub state-replace : (k n len : ℕ) (st : List ℕ) (rs : Refs) (b : ℕ) (z y : Place) → σ (inner-place k n) ≡ inner-cell len st rs → find-ref rs b ≡ some z → inPool f y ≡ true
-      → State f (replaceAt f (inner-place k n) b (refOf y) words) keys (write σ (inner-place k n) (inner-cell len st (re-ref rs b y))) links root count
-  unfolding replaceAt
+      → State f (changeAt f (inner-place k n) b (Replace (refOf y)) words) keys (write σ (inner-place k n) (inner-cell len st (re-ref rs b y))) links root count
   state-replace k n len st rs b z y e g pool =
       let h = stands s k n len st rs e in
       let c = child-found k n len st rs b z e g in
-      let rec = recordAt f words (inner-place k n) in
-      let row = rowAt (f .form) k rec in
-      inner-put s k n (replaceOf (f .form) k rec b (refOf y)) (prefixAt (f .form) rec) (rowReplace b (refOf y) row) len st (re-ref rs b y) (h .pool)
-      (replace-inner (frame-eight (s .frame)) (h .own) b (refOf y) (c .0) (c .1) (ref-some (s .frame) y pool)) (h .len-is) (h .stored-is)
-      (replace-places b (refOf y) row ∙ ap₂ (λ (l : Refs) (x : Place). re-ref l b x) (h .refs-are) (place-ref f y pool))
+      subst (λ (x : Place). State f (changeAt f (inner-place k n) b (Replace (refOf y)) words) keys (write σ (inner-place k n) (inner-cell len st (re-ref rs b x))) links root count) (place-ref f y pool)
+      (state-change k n len st rs b (Replace (refOf y)) e (c .0) (c .1, ref-some (s .frame) y pool) (omega (arith, h .size, inner-two (h .own))))
 
   pub state-prefix : (k n len : ℕ) (st : List ℕ) (rs : Refs) (p : Prefix) → σ (inner-place k n) ≡ inner-cell len st rs → PrefixFits (f .form) p
       → State f (prefixedAt f (inner-place k n) p words) keys (write σ (inner-place k n) (inner-cell (p .full .0) (held p) rs)) links root count

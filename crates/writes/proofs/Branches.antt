@@ -16,13 +16,14 @@ use Rattle.frames.proofs.KindTable.{kind-rules}
 use Rattle.records.specs.Own.{directOk, childOf, childAt}
 use Rattle.records.specs.Row.{filled, directRow, refFor}
 use Rattle.records.proofs.Owns.{inner-rule}
+use Rattle.edits.specs.declared.representation.Change.the-variants.{Remove}
 use Rattle.edits.specs.Record.{spreadOf}
 use Rattle.edits.specs.Rows.{Row, rowInsert, rowPair, rowRemove}
 use Rattle.edits.specs.Inner.{Inner}
 use Rattle.edits.proofs.Inners.{inner-size, inner-climbs, inner-child, spread-of}
 use Rattle.edits.proofs.RowChanges.{pair-climbs, table-insert}
 use Rattle.edits.proofs.Shown.{Direct, holds-laid, holds-child}
-use Rattle.edits.proofs.TableBodies.{direct-shown, direct-remove}
+use Rattle.edits.proofs.TableBodies.{direct-shown, direct-change}
 
 -- places that are all 0 have no child
 zeros-row : (n b : ℕ) → filled b (replicate n 0) ≡ []
@@ -81,5 +82,5 @@ module _ {form : Form} {kind : ℕ} {rec : List ℕ} {p : Prefix} {row : Row} (i
   pub drop-count : (b : ℕ) → b < 256 → 0 < childAt form kind rec b → count nonzero (set S b 0) ≡ getD rec 1 0 - 1
   drop-count b low some =
       direct-count (set S b 0) (length row - 1) (rowRemove b row)
-      (direct-remove S (length row) row table refl (inner-climbs i) b low (at-byte b low) (omega (arith, inner-child i b low)))
+      (direct-change S (length row) row table refl (inner-climbs i) b low (at-byte b low) Remove (omega (arith, inner-child i b low)))
       ∙ ap (λ (n : ℕ). n - 1) (inner-size i)

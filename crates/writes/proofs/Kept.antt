@@ -13,13 +13,15 @@ use Rattle.frames.specs.Place.{placeAt, inPool, startAt, sizeAt, putAt}
 use Rattle.frames.specs.declared.frame.Frame.{Frame}
 use Rattle.frames.proofs.Places.{place-room}
 use Rattle.art.specs.Stores.{Place}
+use Rattle.edits.specs.declared.representation.Change.{Change}
+use Rattle.edits.specs.declared.representation.Change.the-variants.{Replace}
 use Rattle.points.specs.declared.insert_point.Up.{Up}
 use Rattle.points.specs.declared.insert_point.Up.the-variants.{Top, Via}
 use Rattle.points.specs.There.{UpThere}
 use Rattle.pools.specs.Link.{setTrailer}
 use Rattle.view.proofs.Puts.{put-fits}
 use Rattle.view.proofs.Trailers.{trailer-fits}
-use Rattle.writes.specs.At.{addAt, removeAt, replaceAt, prefixedAt, branchAt, moveAt, dropAt, clearAt}
+use Rattle.writes.specs.At.{changeAt, prefixedAt, branchAt, moveAt, dropAt, clearAt}
 use Rattle.writes.specs.Above.{linkUp}
 use Rattle.writes.proofs.Spots.{fits-words}
 
@@ -38,17 +40,9 @@ module _ {f : Frame} {words keys : List ℕ} (w : FrameOf f words keys) (out : L
       splice-kept words (startAt f x) (startAt f x + sizeAt f x) rec (omega arith) (omega arith) (ap length (sym e) ∙ kept) ∙ omega arith in
       fits-words (put-fits w x rec h long) e
 
-  pub add-kept : (x : Place) → inPool f x ≡ true → (byte ref : ℕ) → out ≡ addAt f x byte ref words → FrameOf f out keys
-  unfolding addAt
-  add-kept x h byte ref e = put-kept x h _ e
-
-  pub remove-kept : (x : Place) → inPool f x ≡ true → (byte : ℕ) → out ≡ removeAt f x byte words → FrameOf f out keys
-  unfolding removeAt
-  remove-kept x h byte e = put-kept x h _ e
-
-  pub replace-kept : (x : Place) → inPool f x ≡ true → (byte ref : ℕ) → out ≡ replaceAt f x byte ref words → FrameOf f out keys
-  unfolding replaceAt
-  replace-kept x h byte ref e = put-kept x h _ e
+  pub change-kept : (x : Place) → inPool f x ≡ true → (byte : ℕ) (change : Change) → out ≡ changeAt f x byte change words → FrameOf f out keys
+  unfolding changeAt
+  change-kept x h byte change e = put-kept x h _ e
 
   pub prefixed-kept : (x : Place) → inPool f x ≡ true → (p : Prefix) → out ≡ prefixedAt f x p words → FrameOf f out keys
   unfolding prefixedAt
@@ -75,4 +69,4 @@ module _ {f : Frame} {words keys : List ℕ} (w : FrameOf f words keys) (out : L
 
   pub linked-kept : (up : Up) → UpThere f words up → (ref : ℕ) → out ≡ linkUp f up ref words → FrameOf f out keys
   linked-kept Top h ref e = root-kept ref e
-  linked-kept (Via above byte) h ref e = replace-kept (placeAt above) (h .here .pool) byte ref e
+  linked-kept (Via above byte) h ref e = change-kept (placeAt above) (h .here .pool) byte (Replace ref) e

@@ -16,13 +16,16 @@ use Rattle.frames.specs.declared.frame.Frame.{Frame}
 use Rattle.frames.proofs.FormTable.{form-in}
 use Rattle.frames.proofs.Frames.{totals}
 use Rattle.frames.proofs.Places.{place-room, record-length, key-length}
-use Rattle.records.specs.Own.{prefixAt}
+use Rattle.records.specs.Own.{prefixAt, childAt}
 use Rattle.records.proofs.Owns.{inner-rule}
 use Rattle.art.specs.Stores.{Place, leaf-place, inner-place}
+use Rattle.edits.specs.declared.representation.Change.{Change}
+use Rattle.edits.specs.declared.representation.Change.the-variants.{Add, Remove, Replace}
+use Rattle.edits.specs.Change.{Needs}
 use Rattle.view.specs.Cells.{kindAt}
 use Rattle.points.specs.There.{InnerHere}
 use Rattle.points.proofs.Here.{place-kind}
-use Rattle.writes.specs.At.{InnerPlace}
+use Rattle.writes.specs.At.{Changes, InnerPlace}
 
 -- an inner record's place has the size of its kind
 pub inner-size : (f : Frame) (x : Place) → kindAt x ≤ 4 → sizeAt f x ≡ recordWords (f .form) (kindAt x)
@@ -78,6 +81,13 @@ module _ (f : Frame) (words : List ℕ) (ref : ℕ) {a e : ℕ} (start : a ≡ s
   part-made g p made =
       part-put f words (placeAt ref) start end p
       ∙ ap (putAt f words (placeAt ref)) (made ∙ ap₂ g (sym (place-kind ref)) (part-record f words (placeAt ref) start end))
+
+-- a record that a change can be made to is there, and has what the change needs
+pub change-ready : (f : Frame) (words : List ℕ) (x : Place) (byte : ℕ) (change : Change) → Changes f words x byte change
+    → InnerHere f words x × Needs change (getD (recordAt f words x) 1 0 < childrenOf (kindAt x)) (0 < childAt (f .form) (kindAt x) (recordAt f words x) byte)
+change-ready f words x byte (Add ref) h = (h .here, h .room)
+change-ready f words x byte Remove h = (h .here, h .child)
+change-ready f words x byte (Replace ref) h = (h .here, h .child)
 
 -- the words of an inner place
 pub record-long : {f : Frame} {words keys : List ℕ} → FrameOf f words keys → (x : Place) → InnerPlace f x → length (recordAt f words x) ≡ recordWords (f .form) (kindAt x)

@@ -4,11 +4,12 @@ use mathlib.Core.List.{List}
 use Rattle.frames.specs.Place.{placeAt}
 use Rattle.frames.specs.declared.frame.Frame.{Frame}
 use Rattle.pools.specs.Link.{setTrailer}
+use Rattle.edits.specs.declared.representation.Change.the-variants.{Replace}
 use Rattle.points.specs.declared.insert_point.Up.{Up}
 use Rattle.points.specs.declared.insert_point.Up.the-variants.{Top, Via}
-use Rattle.writes.specs.At.{replaceAt}
+use Rattle.writes.specs.At.{changeAt}
 
 -- the record above, or the trailer, names another record
 abbrev pub linkUp : Frame → Up → ℕ → List ℕ → List ℕ
 linkUp f Top ref words = setTrailer 11 ref words
-linkUp f (Via above byte) ref words = replaceAt f (placeAt above) byte ref words
+linkUp f (Via above byte) ref words = changeAt f (placeAt above) byte (Replace ref) words

@@ -11,23 +11,17 @@ use Rattle.frames.specs.declared.frame.Frame.{Frame}
 use Rattle.records.specs.Own.{prefixAt}
 use Rattle.records.specs.Row.{directRow}
 use Rattle.art.specs.Stores.{Place}
+use Rattle.edits.specs.Change.{Needs}
 use Rattle.edits.specs.Head.{setPrefix}
-use Rattle.edits.specs.Record.{addOf, removeOf, replaceOf, spreadOf, buildRec}
+use Rattle.edits.specs.declared.representation.Change.{Change}
+use Rattle.edits.specs.Record.{changeOf, spreadOf, buildRec}
 use Rattle.edits.specs.Rows.{rowPair}
 use Rattle.view.specs.Cells.{kindAt}
 use Rattle.points.specs.There.{InnerHere, HasChild}
 
--- a child more for a byte
-unfoldable pub addAt : Frame → Place → ℕ → ℕ → List ℕ → List ℕ
-addAt f x byte ref words = putAt f words x (addOf (f .form) (kindAt x) (recordAt f words x) byte ref)
-
--- the child for a byte taken out
-unfoldable pub removeAt : Frame → Place → ℕ → List ℕ → List ℕ
-removeAt f x byte words = putAt f words x (removeOf (f .form) (kindAt x) (recordAt f words x) byte)
-
--- another reference for the child for a byte
-unfoldable pub replaceAt : Frame → Place → ℕ → ℕ → List ℕ → List ℕ
-replaceAt f x byte ref words = putAt f words x (replaceOf (f .form) (kindAt x) (recordAt f words x) byte ref)
+-- the children changed for a byte
+unfoldable pub changeAt : Frame → Place → ℕ → Change → List ℕ → List ℕ
+changeAt f x byte change words = putAt f words x (changeOf (f .form) (kindAt x) (recordAt f words x) byte change)
 
 -- another prefix
 unfoldable pub prefixedAt : Frame → Place → Prefix → List ℕ → List ℕ
@@ -56,6 +50,10 @@ clearAt f x words = putAt f words x (replicate (sizeAt f x) 0)
 pub record Roomy (f : Frame) (words : List ℕ) (x : Place) : Type 0 where
   pub here : InnerHere f words x
   pub room : getD (recordAt f words x) 1 0 < childrenOf (kindAt x)
+
+-- what a change needs: room for a child more, else the child
+abbrev pub Changes : Frame → List ℕ → Place → ℕ → Change → Type 0
+Changes f words x byte change = Needs change (Roomy f words x) (HasChild f words x byte)
 
 -- an inner record's place in a pool
 pub record InnerPlace (f : Frame) (x : Place) : Type 0 where

@@ -4,6 +4,7 @@ ghost use Rattle.frames.specs.Frame.{FrameOf};
 ghost use Rattle.points.specs.There.{UpThere};
 ghost use Rattle.writes.specs.Above.{linkUp};
 use super::representation;
+use edits::representation::Change;
 use frames::frame;
 use frames::frame::Frame;
 use points::insert_point::Up;
@@ -15,7 +16,7 @@ pub fn link_up(words: &mut [u32], keys: &[u8], f: Frame, up: Up, reference: u32)
     ensures { λ _. ⌜ now (words .exit) ≡ linkUp f up reference (now (words .entry)) ⌝ }
 {
     if let Up::Via(above, byte) = up {
-        representation::replace_at(words, keys, f, above, byte, reference);
+        representation::change_at(words, keys, f, above, byte, Change::Replace(reference));
         return;
     }
     links::set_trailer(words, frame::ROOT, reference);

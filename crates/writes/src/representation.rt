@@ -8,10 +8,11 @@ ghost use Rattle.frames.specs.Place.{placeAt, startAt, sizeAt, recordAt};
 ghost use Rattle.records.specs.Own.{prefixAt};
 ghost use Rattle.edits.specs.Record.{spreadOf};
 ghost use Rattle.view.specs.Cells.{kindAt};
-ghost use Rattle.points.specs.There.{InnerHere, HasChild};
-ghost use Rattle.writes.specs.At.{addAt, removeAt, replaceAt, prefixedAt, branchAt, moveAt, dropAt, clearAt, Roomy, InnerPlace, Moves, Drops};
+ghost use Rattle.points.specs.There.{InnerHere};
+ghost use Rattle.writes.specs.At.{changeAt, prefixedAt, branchAt, moveAt, dropAt, clearAt, Changes, InnerPlace, Moves, Drops};
 use edits::header;
 use edits::representation;
+use edits::representation::Change;
 use frames::form;
 use frames::frame;
 use frames::frame::Frame;
@@ -49,37 +50,15 @@ pub fn prefix_of(words: &[u32], keys: &[u8], f: Frame, reference: u32) -> Prefix
     prefix_at(f.form, &words[a..e])
 }
 
-// A child more for a byte, in a record that has room.
-pub fn add_at(words: &mut [u32], keys: &[u8], f: Frame, reference: u32, byte: u8, child: u32)
-    requires { ⌜ FrameOf f (now words) (now keys) × Roomy f (now words) (placeAt reference) ⌝ }
-    ensures { λ _. ⌜ now (words .exit) ≡ addAt f (placeAt reference) byte child (now (words .entry)) ⌝ }
+// The children changed for a byte.
+pub fn change_at(words: &mut [u32], keys: &[u8], f: Frame, reference: u32, byte: u8, change: Change)
+    requires { ⌜ FrameOf f (now words) (now keys) × Changes f (now words) (placeAt reference) byte change ⌝ }
+    ensures { λ _. ⌜ now (words .exit) ≡ changeAt f (placeAt reference) byte change (now (words .entry)) ⌝ }
 {
     let part = part_at(words, keys, f, reference);
     let a = part.start;
     let e = part.end;
-    representation::add_child(&mut words[a..e], f.form, reference % 8, byte, child);
-}
-
-// The child for a byte taken out.
-pub fn remove_at(words: &mut [u32], keys: &[u8], f: Frame, reference: u32, byte: u8)
-    requires { ⌜ FrameOf f (now words) (now keys) × HasChild f (now words) (placeAt reference) byte ⌝ }
-    ensures { λ _. ⌜ now (words .exit) ≡ removeAt f (placeAt reference) byte (now (words .entry)) ⌝ }
-{
-    let part = part_at(words, keys, f, reference);
-    let a = part.start;
-    let e = part.end;
-    representation::remove_child(&mut words[a..e], f.form, reference % 8, byte);
-}
-
-// Another reference for the child for a byte.
-pub fn replace_at(words: &mut [u32], keys: &[u8], f: Frame, reference: u32, byte: u8, child: u32)
-    requires { ⌜ FrameOf f (now words) (now keys) × HasChild f (now words) (placeAt reference) byte ⌝ }
-    ensures { λ _. ⌜ now (words .exit) ≡ replaceAt f (placeAt reference) byte child (now (words .entry)) ⌝ }
-{
-    let part = part_at(words, keys, f, reference);
-    let a = part.start;
-    let e = part.end;
-    representation::replace_child(&mut words[a..e], f.form, reference % 8, byte, child);
+    representation::change_child(&mut words[a..e], f.form, reference % 8, byte, change);
 }
 
 // Another prefix.

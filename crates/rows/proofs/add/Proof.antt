@@ -6,8 +6,8 @@ use borrow.Author.Needs.{needs}
 use Rattle.rows.proofs.add.Statement.{statement}
 use Rattle.rows.proofs.add.Tie as tie
 
-add-child-requires : tie.Need-add-child-requires
-add-child-requires c κs =
+change-child-requires : tie.Need-change-child-requires
+change-child-requires c κs =
     let b8 = c .before .before .before .before .before .before .before .before in
     (b8 .before .before .pre, omega (arith, ap (λ (r : KindRow). r .children) (b8 .row-of .ensures)))
 
@@ -22,6 +22,6 @@ add-spec =
     (λ c κs. search needs)
     (λ c. search needs)
     (λ c. search needs)
-    add-child-requires
+    change-child-requires
     (λ c. search needs)
     (λ c. search needs))

@@ -2,7 +2,8 @@
 use mathlib.Core.Path.{sym, ap, subst, _∙_}
 use native.Mathlib.Omega.{arith}
 use Rattle.frames.proofs.Frames.{totals}
-use Rattle.writes.proofs.Kept.{root-kept, remove-kept}
+use Rattle.edits.specs.declared.representation.Change.the-variants.{Remove}
+use Rattle.writes.proofs.Kept.{root-kept, change-kept}
 use Rattle.delete.specs.Apply.{pruned, CutReady}
 use borrow.Author.Needs.{needs}
 use Rattle.delete.proofs.apply.prune.Statement.{statement}
@@ -23,8 +24,8 @@ returns c =
     let out = b2 .set-trailer in
     (out .ensures ∙ sym (ap (λ x. pruned (a .f) x (a .words .now)) (b4 .enum-told .given .1)), root-kept (s .pre .0) (out .last .0) (out .kept .0) 0 (out .ensures))
 
-remove-at-requires : tie.Need-remove-at-requires
-remove-at-requires c κs =
+change-at-requires : tie.Need-change-at-requires
+change-at-requires c κs =
     let b2 = c .before .before in
     let s = b2 .before .before .before .before in
     let a = s .args in
@@ -37,9 +38,9 @@ returns-2 c =
     let b5 = b2 .before .before .before in
     let s = b5 .before .before .before .before in
     let a = s .args in
-    let out = b2 .remove-at in
+    let out = b2 .change-at in
     let r = subst (CutReady (a .f) (a .words .now)) (b5 .cut .given .1) (s .pre .1) in
-    (out .ensures ∙ sym (ap (λ x. pruned (a .f) x (a .words .now)) (b5 .cut .given .1)), remove-kept (s .pre .0) (out .last .0) (out .kept .0) _ (r .here .pool) _ (out .ensures))
+    (out .ensures ∙ sym (ap (λ x. pruned (a .f) x (a .words .now)) (b5 .cut .given .1)), change-kept (s .pre .0) (out .last .0) (out .kept .0) _ (r .here .pool) _ Remove (out .ensures))
 
 shrink-requires : tie.Need-shrink-requires
 shrink-requires c κs =
@@ -75,4 +76,4 @@ returns-4 c =
 
 pub prune-spec : {M : Type 1} → statement M
 prune-spec =
-    tie.close (tie.spec (λ c. search needs) set-trailer-requires (λ c. search needs) returns (λ c. search needs) remove-at-requires (λ c. search needs) returns-2 (λ c. search needs) shrink-requires (λ c. search needs) returns-3 (λ c. search needs) merge-requires (λ c. search needs) returns-4)
+    tie.close (tie.spec (λ c. search needs) set-trailer-requires (λ c. search needs) returns (λ c. search needs) change-at-requires (λ c. search needs) returns-2 (λ c. search needs) shrink-requires (λ c. search needs) returns-3 (λ c. search needs) merge-requires (λ c. search needs) returns-4)

@@ -2,7 +2,8 @@
 use mathlib.Core.Path.{sym, ap, subst, _∙_}
 use native.Mathlib.Omega.{arith}
 use Rattle.frames.proofs.Frames.{totals}
-use Rattle.writes.proofs.Kept.{root-kept, add-kept}
+use Rattle.edits.specs.declared.representation.Change.the-variants.{Add}
+use Rattle.writes.proofs.Kept.{root-kept, change-kept}
 use Rattle.insert.specs.Apply.{hung, SiteReady}
 use borrow.Author.Needs.{needs}
 use Rattle.insert.proofs.apply.hang.Statement.{statement}
@@ -23,8 +24,8 @@ returns c =
     let out = b2 .set-trailer in
     (out .ensures ∙ sym (ap (λ x. hung (a .f) (a .keys .now) (a .tag .now) x (a .leaf) (a .words .now)) (b4 .enum-told .given .1)), root-kept (s .pre .0) (out .last .0) (out .kept .0) (a .leaf) (out .ensures))
 
-add-at-requires : tie.Need-add-at-requires
-add-at-requires c κs =
+change-at-requires : tie.Need-change-at-requires
+change-at-requires c κs =
     let b2 = c .before .before in
     let s = b2 .before .before .before .before .before in
     let a = s .args in
@@ -37,9 +38,9 @@ returns-2 c =
     let b5 = b2 .before .before .before in
     let s = b5 .before .before .before .before .before in
     let a = s .args in
-    let out = b2 .add-at in
+    let out = b2 .change-at in
     let r = subst (λ x. SiteReady (a .f) (a .words .now) (a .keys .now) (a .tag .now) x (a .leaf)) (b5 .site .given .1) (s .pre .1 .0) in
-    (out .ensures ∙ sym (ap (λ x. hung (a .f) (a .keys .now) (a .tag .now) x (a .leaf) (a .words .now)) (b5 .site .given .1)), add-kept (s .pre .0) (out .last .0) (out .kept .0) _ (r .here .pool) _ (a .leaf) (out .ensures))
+    (out .ensures ∙ sym (ap (λ x. hung (a .f) (a .keys .now) (a .tag .now) x (a .leaf) (a .words .now)) (b5 .site .given .1)), change-kept (s .pre .0) (out .last .0) (out .kept .0) _ (r .here .pool) _ (Add (a .leaf)) (out .ensures))
 
 grow-requires : tie.Need-grow-requires
 grow-requires c κs =
@@ -75,4 +76,4 @@ returns-4 c =
 
 pub hang-spec : {M : Type 1} → statement M
 hang-spec =
-    tie.close (tie.spec (λ c. search needs) set-trailer-requires (λ c. search needs) returns (λ c. search needs) add-at-requires (λ c. search needs) returns-2 (λ c. search needs) grow-requires (λ c. search needs) returns-3 (λ c. search needs) fork-requires (λ c. search needs) returns-4)
+    tie.close (tie.spec (λ c. search needs) set-trailer-requires (λ c. search needs) returns (λ c. search needs) change-at-requires (λ c. search needs) returns-2 (λ c. search needs) grow-requires (λ c. search needs) returns-3 (λ c. search needs) fork-requires (λ c. search needs) returns-4)

@@ -8,8 +8,8 @@ use borrow.Author.Needs.{needs}
 use Rattle.writes.proofs.above.link_up.Statement.{statement}
 use Rattle.writes.proofs.above.link_up.Tie as tie
 
-replace-at-requires : tie.Need-replace-at-requires
-replace-at-requires c κs =
+change-at-requires : tie.Need-change-at-requires
+change-at-requires c κs =
     let b2 = c .before .before in
     let s = b2 .before .before .before .before in
     (s .pre .0, subst (UpThere (s .args .f) (s .args .words .now)) (b2 .up .given .1) (s .pre .1))
@@ -19,7 +19,7 @@ returns c =
     let b2 = c .before .before in
     let b5 = b2 .before .before .before in
     let s = b5 .before .before .before .before in
-    b2 .replace-at .ensures ∙ sym (ap (λ u. linkUp (s .args .f) u (s .args .reference) (s .args .words .now)) (b5 .up .given .1))
+    b2 .change-at .ensures ∙ sym (ap (λ u. linkUp (s .args .f) u (s .args .reference) (s .args .words .now)) (b5 .up .given .1))
 
 set-trailer-requires : tie.Need-set-trailer-requires
 set-trailer-requires c κs =
@@ -35,4 +35,4 @@ returns-2 c =
 
 pub link-up-spec : {M : Type 1} → statement M
 link-up-spec =
-    tie.close (tie.spec (λ c. search needs) replace-at-requires (λ c. search needs) returns (λ c. search needs) set-trailer-requires (λ c. search needs) returns-2)
+    tie.close (tie.spec (λ c. search needs) change-at-requires (λ c. search needs) returns (λ c. search needs) set-trailer-requires (λ c. search needs) returns-2)
