@@ -4,51 +4,23 @@ use Rattle.edits.proofs.inner_node_indirect.indirect_change.Statement.{
 use Rattle.edits.proofs.inner_node_indirect.indirect_change.Tie as tie
 
 indirect-add-requires : tie.Need-indirect-add-requires
-indirect-add-requires c κs =
-    let told = c .before .before in
-    let s = told .before .before .before in
-    (s .pre .0, rw (told .change .given .1) at (s .pre .1))
-
-indirect-remove-requires : tie.Need-indirect-remove-requires
-indirect-remove-requires c κs =
-    let told = c .before in
-    let s = told .before .before .before in
-    (s .pre .0, rw (told .enum-told .given .1) at (s .pre .1))
-
-indirect-replace-requires : tie.Need-indirect-replace-requires
-indirect-replace-requires c κs =
-    let told = c .before .before in
-    let s = told .before .before .before in
-    (s .pre .0, rw (told .change2 .given .1) at (s .pre .1))
+indirect-add-requires c κs = (c .before .before .before .before .before .pre .0, rw (c .before .before .change .given .1) at (c .before .before .before .before .before .pre .1))
 
 returns : tie.Need-returns
-returns c =
-    let made = c .before .before in
-    rw (made .before .before .before .change .given .1) (made .indirect-add .ensures)
+returns c = rw (c .before .before .before .before .before .change .given .1) (c .before .before .indirect-add .ensures)
+
+indirect-remove-requires : tie.Need-indirect-remove-requires
+indirect-remove-requires c κs = (c .before .before .before .before .pre .0, rw (c .before .enum-told .given .1) at (c .before .before .before .before .pre .1))
 
 returns-2 : tie.Need-returns-2
-returns-2 c =
-    let made = c .before .before in
-    rw (made .before .before .enum-told .given .1) (made .indirect-remove .ensures)
+returns-2 c = rw (c .before .before .before .before .enum-told .given .1) (c .before .before .indirect-remove .ensures)
+
+indirect-replace-requires : tie.Need-indirect-replace-requires
+indirect-replace-requires c κs = (c .before .before .before .before .before .pre .0, rw (c .before .before .change2 .given .1) at (c .before .before .before .before .before .pre .1))
 
 returns-3 : tie.Need-returns-3
-returns-3 c =
-    let made = c .before .before in
-    rw (made .before .before .before .change2 .given .1) (made .indirect-replace .ensures)
+returns-3 c = rw (c .before .before .before .before .before .change2 .given .1) (c .before .before .indirect-replace .ensures)
 
 pub indirect-change-spec : {M : Type 1} → statement M
 indirect-change-spec =
-    tie.close
-    (tie.spec
-    (λ c. search needs)
-    indirect-add-requires
-    (λ c. search needs)
-    indirect-remove-requires
-    (λ c. search needs)
-    indirect-replace-requires
-    (λ c. search needs)
-    returns
-    (λ c. search needs)
-    returns-2
-    (λ c. search needs)
-    returns-3)
+    tie.close (tie.spec (λ c. search needs) indirect-add-requires (λ c. search needs) indirect-remove-requires (λ c. search needs) indirect-replace-requires (λ c. search needs) returns (λ c. search needs) returns-2 (λ c. search needs) returns-3)
