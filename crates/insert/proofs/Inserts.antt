@@ -31,7 +31,7 @@ use Rattle.insert.specs.declared.plan.Plan.{Plan}
 use Rattle.insert.specs.declared.plan.Plan.the-variants.{Over, New, Clash, NoLeaf, NoRecord, Broken}
 use Rattle.insert.specs.Plan.{planOf}
 use Rattle.insert.specs.Room.{LeavesFull, Lacking, Answers}
-use Rattle.insert.specs.Meets.{Meets, overwrites, clashes, no-leaf, no-record, puts-in}
+use Rattle.insert.specs.Meets.{Inserts, overwrites, clashes, no-leaf, no-record, puts-in}
 use Rattle.insert.specs.Insert.{out, planned, insertSound, insertChecked, insertOf}
 use Rattle.insert.proofs.Plans.{plan-new}
 use Rattle.insert.proofs.Sounds.{insert-sound}
@@ -44,7 +44,7 @@ module _ {words keys : List ℕ} (s : Sound words keys) (tag : List ℕ) (tag-by
   f = frame words
 
   plan-meets : (p : Plan) → planOf f words keys tag ≡ p → Answers (judge tag (held (s .tree))) (LeavesFull f (store-of (s .tree))) (Lacking f (s .tree) tag) p
-      → Meets s tag total (planned f words keys scratch tag total p)
+      → Inserts s tag total (planned f words keys scratch tag total p)
   plan-meets (Over leaf) e h =
       let done = over-sound s tag tag-bytes leaf e total in
       overwrites h (record { old = record { number = leaf / 8; total = totalOf (recordAt f words (leaf-place (leaf / 8))) }; was = over-held s tag tag-bytes leaf e; answers = refl; sound = done .0; holds = done .1 })
@@ -86,8 +86,8 @@ on-sound {words} {keys} s scratch tag total h short =
 
 -- on every sound block, with scratch enough, insert of a tag of 64 bytes or fewer does one of the five, each where its condition holds
 pub insert-meets : {words keys : List ℕ} (s : Sound words keys) (scratch tag : List ℕ) (total : ℕ) → Bytes tag → Bytes keys → placesIn (frame words) ≤ length scratch → length tag ≤ formOf 1 .limit
-    → Meets s tag total (insertOf words keys scratch tag total)
+    → Inserts s tag total (insertOf words keys scratch tag total)
 insert-meets {words} {keys} s scratch tag total tag-bytes key-bytes h short =
-    subst (Meets s tag total) (sym (on-sound s scratch tag total h short))
+    subst (Inserts s tag total) (sym (on-sound s scratch tag total h short))
     (plan-meets s tag tag-bytes key-bytes (subst (λ (g : Form). length tag ≤ g .limit) (sym (one-form words keys (s .fits))) short) (check.cleared (placesIn (frame words)) scratch) total
     (planOf (frame words) words keys tag) refl (plan-answers s tag tag-bytes))

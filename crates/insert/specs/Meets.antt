@@ -42,9 +42,9 @@ pub record Refuses (words keys : List ℕ) (r : Inserted) (o : Out) : Type 0 whe
   pub words-kept : o .words ≡ words
   pub keys-kept : o .keys ≡ keys
 
-pub data Meets {words keys : List ℕ} (s : Sound words keys) (tag : Tag) (total : ℕ) (o : Out) : Type 0 where
-  overwrites : judge tag (held (s .tree)) ≡ known → Overwrites s tag total o → Meets s tag total o
-  clashes : judge tag (held (s .tree)) ≡ clash → Refuses words keys inserted.Clash o → Meets s tag total o
-  no-leaf : judge tag (held (s .tree)) ≡ free → LeavesFull (frame words) (store-of (s .tree)) → Refuses words keys inserted.NoLeaf o → Meets s tag total o
-  no-record : judge tag (held (s .tree)) ≡ free → ¬ LeavesFull (frame words) (store-of (s .tree)) → Lacking (frame words) (s .tree) tag → Refuses words keys inserted.NoRecord o → Meets s tag total o
-  puts-in : judge tag (held (s .tree)) ≡ free → ¬ LeavesFull (frame words) (store-of (s .tree)) → ¬ Lacking (frame words) (s .tree) tag → PutsIn s tag total o → Meets s tag total o
+pub data Inserts {words keys : List ℕ} (s : Sound words keys) (tag : Tag) (total : ℕ) (o : Out) : Type 0 where
+  overwrites : judge tag (held (s .tree)) ≡ known → Overwrites s tag total o → Inserts s tag total o
+  clashes : judge tag (held (s .tree)) ≡ clash → Refuses words keys inserted.Clash o → Inserts s tag total o
+  no-leaf : judge tag (held (s .tree)) ≡ free → LeavesFull (frame words) (store-of (s .tree)) → Refuses words keys inserted.NoLeaf o → Inserts s tag total o
+  no-record : judge tag (held (s .tree)) ≡ free → ¬ LeavesFull (frame words) (store-of (s .tree)) → Lacking (frame words) (s .tree) tag → Refuses words keys inserted.NoRecord o → Inserts s tag total o
+  puts-in : judge tag (held (s .tree)) ≡ free → ¬ LeavesFull (frame words) (store-of (s .tree)) → ¬ Lacking (frame words) (s .tree) tag → PutsIn s tag total o → Inserts s tag total o

@@ -27,7 +27,7 @@ use Rattle.insert.specs.declared.plan.Plan.the-variants.{Over, New, Clash, NoLe
 use Rattle.insert.specs.declared.answer.Inserted.the-variants as inserted
 use Rattle.insert.specs.Insert.{out}
 use Rattle.insert.specs.Room.{LeavesFull, Lacking, Answers}
-use Rattle.insert.specs.Meets.{newTotal, Meets}
+use Rattle.insert.specs.Meets.{newTotal, Inserts}
 use Rattle.insert.specs.Grown.{GrownFrom, AlteredFrom}
 use Rattle.insert.proofs.Ready.{insert-ready}
 use Rattle.insert.proofs.Sounds.{insert-sound, insert-grown}
@@ -170,10 +170,10 @@ unfolding opened
 room-new = new-due room-sound C (tag-bytes C refl) (ap (judge C) room-holds) room-not-full room-not-lacks
 
 -- ── the whole call ──
-room-meets : Meets room-sound C 9 (out inserted.New (three .words) (three .keys) (replicate 5 0))
+room-meets : Inserts room-sound C 9 (out inserted.New (three .words) (three .keys) (replicate 5 0))
 unfolding opened
 room-meets = insert-meets room-sound (replicate 5 1) C 9 (tag-bytes C refl) (tag-bytes (room .keys) refl) (omega arith) (omega arith)
 
-two-meets : Meets two-sound AB 9 (out inserted.Clash two-words two-keys (replicate 3 0))
+two-meets : Inserts two-sound AB 9 (out inserted.Clash two-words two-keys (replicate 3 0))
 unfolding opened
 two-meets = insert-meets two-sound (replicate 3 1) AB 9 (tag-bytes AB refl) (tag-bytes two-keys refl) (omega arith) (omega arith)
