@@ -1,16 +1,17 @@
 -- The laws that a loop over one slice goes by. Each record is the invariant of a loop at i: what the definition says of the whole list,
 -- said of what is left of it. It is a record so that a law finds the list and the index by itself.
 use Prim.Native.Nat.{ℕ, zero, suc, _+_, _-_, _≤_, _<_}
-use mathlib.Core.Path.{_≡_, refl, sym, ap, _∙_}
+use mathlib.Core.Path.{_≡_, refl, sym, ap, subst, _∙_}
 use mathlib.Core.List.{List, [], _∷_, _++_}
 use mathlib.Core.Bool.{Bool, true, false, _&&_, and-assoc, and-true}
 use native.Mathlib.Numerals.{add-one}
 use native.Mathlib.Omega.{arith}
-use borrow.Author.Tests.{le-leb}
+use borrow.Author.Tests.{le-leb, ne-eqb}
 use lib.ListN.{length, getD, take, drop, drop-of-length-le}
 use lib.Seq.{drop-cons, take-suc, take-length, length-take-le}
-use lib.Dec.{leb, ltb}
-use Rattle.lists.specs.Scan.{choose, all, first, past, onward, nth, count, rises}
+use lib.Dec.{eqb, leb, ltb, eqb·suc-zero, leb·suc-zero}
+use lib.Bits.{bitOr, or-zero-l, or-add-and, and-le-r}
+use Rattle.lists.specs.Scan.{choose, atMost, all, first, past, onward, nth, count, rises}
 
 -- what is left at i, its front element first
 pub step : (s : List ℕ) (i : ℕ) → i < length s → drop i s ≡ getD s i 0 ∷ drop (i + 1) s
@@ -35,6 +36,17 @@ module _ {p : ℕ → Bool} {s : List ℕ} {i : ℕ} {ok : Bool} (r : All p s i 
 
   pub all-end : length s ≤ i → ok ≡ all p s
   all-end h = sym (r .left ∙ ap (λ (l : List ℕ). ok && all p l) (drop-of-length-le s h) ∙ and-true ok)
+
+-- no bit is set in either of two numbers exactly where both are 0
+no-bits : (a x : ℕ) → eqb (bitOr a x) 0 ≡ eqb a 0 && leb x 0
+no-bits zero zero = refl
+no-bits zero (suc x) = ap (λ (n : ℕ). eqb n 0) (or-zero-l (suc x)) ∙ eqb·suc-zero x ∙ sym (leb·suc-zero x)
+no-bits (suc a) x =
+    ne-eqb (bitOr (suc a) x) 0 (omega (arith, or-add-and (suc a) x, and-le-r (suc a) x)) ∙ ap (λ (b : Bool). b && leb x 0) (sym (eqb·suc-zero a))
+
+-- every element is 0: `bits` are those that the elements before i have set
+pub none-set : {s : List ℕ} {i : ℕ} (bits : ℕ) → All (atMost 0) s i (eqb bits 0) → i < length s → All (atMost 0) s (i + 1) (eqb (bitOr bits (getD s i 0)) 0)
+none-set {s} {i} bits r h = subst (All (atMost 0) s (i + 1)) (sym (no-bits bits (getD s i 0))) (all-on r h)
 
 -- the first that passes
 pub record First (p : ℕ → Bool) (s : List ℕ) (i : ℕ) : Type 0 where

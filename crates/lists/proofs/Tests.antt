@@ -4,9 +4,9 @@ use mathlib.Core.Path.{_≡_, refl, sym, ap, subst, _∙_}
 use mathlib.Core.List.{List, [], _∷_, _++_}
 use mathlib.Core.Bool.{Bool, true, false, _&&_, and-assoc, and-false, false≢true}
 use native.Mathlib.Omega.{arith}
-use borrow.Author.Tests.{leb-true, le-leb}
+use borrow.Author.Tests.{leb-true, le-leb, ne-eqb}
 use lib.ListN.{length, getD, take, drop, set, replicate}
-use lib.Dec.{leb}
+use lib.Dec.{eqb, leb, eqb·suc-suc}
 use Rattle.lists.specs.Scan.{choose, atMost, all, first, past, onward, nth, count, rises}
 use Rattle.lists.specs.Part.{between}
 use Rattle.lists.proofs.Scans.{nth-skips, nth-counts, nth-here}
@@ -178,6 +178,14 @@ module _ (p : ℕ → Bool) where
   count-all (x ∷ xs) e =
       let b = both (p x) (all p xs) e in
       ap (λ (t : Bool). choose t (suc (count p xs)) (count p xs)) (b .0) ∙ ap suc (count-all xs (b .1))
+
+  pub all-count : (l : List ℕ) → all p l ≡ eqb (count p l) (length l)
+  all-count [] = refl
+  all-count (x ∷ xs) = go (p x) (all-count xs) (count-le xs)
+    where
+      go : (t : Bool) → all p xs ≡ eqb (count p xs) (length xs) → count p xs ≤ length xs → t && all p xs ≡ eqb (choose t (suc (count p xs)) (count p xs)) (suc (length xs))
+      go true ih h = rw (eqb·suc-suc (count p xs) (length xs)) ih
+      go false ih h = sym (ne-eqb (count p xs) (suc (length xs)) (omega arith))
 
   pub count-none : (l : List ℕ) → ((i : ℕ) → i < length l → p (getD l i 0) ≡ false) → count p l ≡ 0
   count-none [] h = refl

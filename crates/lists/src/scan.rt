@@ -17,30 +17,24 @@ pub fn all_at_most(s: &[u32], b: u32) -> bool
     ok
 }
 
-// Each byte is 0.
+// Each byte is 0: no bit is set in any.
 pub fn bytes_zero(s: &[u8]) -> bool
     ensures { λ r. ⌜ r ≡ all (atMost 0) (now (s .entry)) ⌝ }
 {
     let mut i = 0;
-    let mut ok = true;
+    let mut bits: u8 = 0;
     while i < s.len() {
-        ok = ok & (s[i] <= 0);
+        bits = bits | s[i];
         i += 1;
     }
-    ok
+    bits == 0
 }
 
-// No word is 0.
+// No word is 0: all of them count.
 pub fn none_zero(s: &[u32]) -> bool
     ensures { λ r. ⌜ r ≡ all nonzero (now (s .entry)) ⌝ }
 {
-    let mut i = 0;
-    let mut ok = true;
-    while i < s.len() {
-        ok = ok & (0 < s[i]);
-        i += 1;
-    }
-    ok
+    count_nonzero(s) == s.len()
 }
 
 // Strictly ascending bytes, one a word.

@@ -1,23 +1,26 @@
--- `scan::bytes_zero` meets its contract: `ok` is the answer for what stands before `i`, and with what is left it is that of the whole.
+-- `scan::bytes_zero` meets its contract: the bytes before `i` are 0 exactly where they have no bit set.
 use Prim.Native.Nat.{_-_}
+use lib.Dec.{eqb}
 use lib.ListN.{length}
 use borrow.Author.Needs.{needs}
 use Rattle.lists.specs.Scan.{atMost}
-use Rattle.lists.proofs.Scans.{All, all-start, all-on, all-end}
+use Rattle.lists.proofs.Scans.{All, all-start, all-end, none-set}
 use Rattle.lists.proofs.scan.bytes_zero.Statement.{statement}
 use Rattle.lists.proofs.scan.bytes_zero.Tie as tie
 
 abbrev Inv-loop : tie.InvT-loop
-Inv-loop s i₀ ok₀ i ok = All (atMost 0) s i ok
+Inv-loop s i₀ bits₀ i bits = All (atMost 0) s i (eqb bits 0)
 
 abbrev μ-loop : tie.MeasureT-loop
-μ-loop s i₀ ok₀ i ok = length s - i
+μ-loop s i₀ bits₀ i bits = length s - i
 
 loop-holds : tie.Need-loop-holds Inv-loop μ-loop
 loop-holds c = all-start
 
 loop-again : tie.Need-loop-again Inv-loop μ-loop
-loop-again c = all-on (c .before .before .loop .inv) (search needs)
+loop-again c =
+    let at = c .before .before .loop in
+    none-set (at .bits) (at .inv) (search needs)
 
 returns : tie.Need-returns Inv-loop μ-loop
 returns c = all-end (c .before .loop .inv) (search needs)

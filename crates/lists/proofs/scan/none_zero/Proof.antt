@@ -1,37 +1,18 @@
--- `scan::none_zero` meets its contract: `ok` is the answer for what stands before `i`, and with what is left it is that of the whole.
-use Prim.Native.Nat.{_-_}
+-- `scan::none_zero` meets its contract: each passes exactly where as many pass as there are.
+use mathlib.Core.Path.{sym, ap, _∙_}
+use Prim.Native.Nat.{ℕ}
+use lib.Dec.{eqb}
 use lib.ListN.{length}
 use borrow.Author.Needs.{needs}
 use Rattle.lists.specs.Scan.{nonzero}
-use Rattle.lists.proofs.Scans.{All, all-start, all-on, all-end}
+use Rattle.lists.proofs.Tests.{all-count}
 use Rattle.lists.proofs.scan.none_zero.Statement.{statement}
 use Rattle.lists.proofs.scan.none_zero.Tie as tie
 
-abbrev Inv-loop : tie.InvT-loop
-Inv-loop s i₀ ok₀ i ok = All nonzero s i ok
-
-abbrev μ-loop : tie.MeasureT-loop
-μ-loop s i₀ ok₀ i ok = length s - i
-
-loop-holds : tie.Need-loop-holds Inv-loop μ-loop
-loop-holds c = all-start
-
-loop-again : tie.Need-loop-again Inv-loop μ-loop
-loop-again c = all-on (c .before .before .loop .inv) (search needs)
-
-returns : tie.Need-returns Inv-loop μ-loop
-returns c = all-end (c .before .loop .inv) (search needs)
+returns : tie.Need-returns
+returns c =
+    let s = c .before .before .args .s .now in
+    ap (λ (n : ℕ). eqb n (length s)) (c .count-nonzero .ensures) ∙ sym (all-count nonzero s)
 
 pub none-zero-spec : {M : Type 1} → statement M
-none-zero-spec =
-    tie.close
-    (tie.spec
-    Inv-loop
-    μ-loop
-    loop-holds
-    (λ c. search needs)
-    (λ c. search needs)
-    (λ c. search needs)
-    (λ c. search needs)
-    loop-again
-    returns)
+none-zero-spec = tie.close (tie.spec (λ c κs. search needs) returns)
