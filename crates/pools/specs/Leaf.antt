@@ -1,9 +1,9 @@
--- A leaf's six words. Its key bytes are its tag, `padded` to the form's limit.
+-- A leaf's six words.
 use Prim.Native.Nat.{ℕ, _/_, _%_, _^_}
 use mathlib.Core.List.{List, [], _∷_}
 use lib.ListN.{set}
 
--- used, tag length, previous, next, low and high half of the total
+-- in use, the length of the tag, the leaves before and after, and the total's two halves, the low one first
 unfoldable pub leafWords : ℕ → ℕ → ℕ → ℕ → List ℕ
 leafWords len previous next total = 1 ∷ len ∷ previous ∷ next ∷ (total % 2 ^ 32) ∷ (total / 2 ^ 32) ∷ []
 

@@ -1,5 +1,5 @@
-// The pools, written: free records found, leaves with their key bytes and their list, the words of the trailer that change, and start.
+// The pools, written: free records found, the words of leaves and of their list, the words of the trailer that change, and start.
 pub mod pools; // free records
-pub mod leaf_node; // leaves and their key bytes
+pub mod leaf_node; // leaves
 pub mod links; // the list of the leaves, and the words of the trailer that change
 pub mod start; // a fresh directory
