@@ -118,11 +118,6 @@ shared-swap s t =
     (λ i h. sym (shared-at t s i h))
     (λ h k e. shared-differ t s k h (sym e))
 
-pub shared-append : (p s t : List ℕ) → shared (p ++ s) (p ++ t) ≡ length p + shared s t
-shared-append [] s t = omega arith
-shared-append (x ∷ xs) s t =
-    ap (λ (b : Bool). choose b (suc (shared (xs ++ s) (xs ++ t))) 0) (eq-eqb x x refl) ∙ omega (arith, shared-append xs s t)
-
 -- with the left cut short
 pub shared-take : (n : ℕ) (s t : List ℕ) → shared (take n s) t ≡ min n (shared s t)
 shared-take n s t = go (shared-le s t) (length-take n s) (decLt n (shared s t))
@@ -232,9 +227,6 @@ ne-same s t d = go (same s t) refl
     go true e = absurd (d (same-eq s t e))
     go false e = refl
 
-pub same-ne : (s t : List ℕ) → same s t ≡ false → s ≡ t → ⊥
-same-ne s t e q = true≢false (sym (eq-same s t q) ∙ e)
-
 -- ---- before, by what both share
 pub less-out : (s t : List ℕ) → shared s t ≡ length t → less s t ≡ false
 less-out s [] h = refl
@@ -279,10 +271,6 @@ module _ (x y : ℕ) (xs ys : List ℕ) where
   pub less-level : x ≡ y → less (x ∷ xs) (y ∷ ys) ≡ less xs ys
   less-level h =
       ap (λ (c : Bool). c || (eqb x y && less xs ys)) (le-ltb x y (omega arith)) ∙ ap (λ (c : Bool). c && less xs ys) (eq-eqb x y h)
-
-pub less-append : (p s t : List ℕ) → less (p ++ s) (p ++ t) ≡ less s t
-less-append [] s t = refl
-less-append (x ∷ xs) s t = less-level x x (xs ++ s) (xs ++ t) refl ∙ less-append xs s t
 
 pub less-self : (s : List ℕ) → less s s ≡ false
 less-self s = less-out s s (shared-self s)

@@ -1,13 +1,13 @@
 -- The laws of parts: a part's length and elements, a part of a part, and what a list is after one of its parts was written over.
 use Prim.Native.Nat.{ℕ, zero, suc, _+_, _-_, _≤_, _<_}
 use mathlib.Core.Path.{_≡_, sym, ap, _∙_}
-use mathlib.Core.List.{List, [], _∷_, _++_, append-assoc, append-nil}
+use mathlib.Core.List.{List, [], _∷_, _++_, append-assoc}
 use mathlib.Core.Bool.{Bool, true}
 use native.Mathlib.Nat.{sub-zero}
 use native.Mathlib.Decide.{decLt}
 use native.Mathlib.Omega.{arith}
 use lib.ListN.{length, getD, take, drop, set, length-append, length-take, length-drop, take-append-drop, List·getD-append}
-use lib.Seq.{take-at, drop-at, drop-drop, take-take, take-add, take-append-le, drop-append-le, take-nil, take-length, drop-length, length-take-le, getD-take, getD-drop, getD-append-add, ext-getD, take-set-le, take-set-lt, drop-set-lt, drop-set-add, drop-cons}
+use lib.Seq.{take-at, drop-at, drop-drop, take-take, take-add, take-append-le, take-nil, take-length, length-take-le, getD-take, getD-drop, getD-append-add, ext-getD, take-set-le, take-set-lt, drop-set-lt, drop-set-add}
 use Rattle.lists.specs.Scan.{all}
 use Rattle.lists.specs.Part.{between, splice}
 use Rattle.lists.proofs.Tests.{and-both, all-append, all-take, all-drop}
@@ -30,15 +30,6 @@ between-drop (x ∷ xs) (suc a) zero h = absurd (omega arith)
 between-drop (x ∷ xs) (suc a) (suc e) h =
     let q : suc e - suc a ≡ e - a = omega arith in
     ap (λ (n : ℕ). take n (drop a xs)) q ∙ between-drop xs a e (omega arith)
-
-pub between-between : (l : List ℕ) (a e b d : ℕ) → b ≤ d → d ≤ e - a → between (between l a e) b d ≡ between l (a + b) (a + d)
-between-between l a e b d h k =
-    let q : d - b ≡ a + d - (a + b) = omega arith in
-    between-drop (between l a e) b d h
-    ∙ ap (drop b) (take-take d (e - a) (drop a l) k)
-    ∙ sym (between-drop (drop a l) b d h)
-    ∙ ap (take (d - b)) (drop-drop b a l)
-    ∙ ap (λ (n : ℕ). take n (drop (a + b) l)) q
 
 -- the front of a part
 pub between-front : (l : List ℕ) (a d e : ℕ) → d ≤ e → take (d - a) (between l a e) ≡ between l a d
@@ -86,10 +77,6 @@ module _ (l : List ℕ) (a e i v : ℕ) where
 pub splice-own : (l : List ℕ) (a e : ℕ) → splice l a e (between l a e) ≡ l
 unfolding splice
 splice-own l a e = ap (λ (z : List ℕ). take a l ++ z) (take-append-drop (e - a) (drop a l)) ∙ take-append-drop a l
-
-pub splice-whole : (l p : List ℕ) → splice l 0 (length l) p ≡ p
-unfolding splice
-splice-whole l p = ap (λ (n : ℕ). p ++ drop n l) (sub-zero (length l)) ∙ ap (λ (z : List ℕ). p ++ z) (drop-length l) ∙ append-nil p
 
 -- the list that stands between two others
 pub splice-middle : (x m z : List ℕ) (a e : ℕ) (p : List ℕ) → length x ≡ a → length m ≡ e - a → splice (x ++ (m ++ z)) a e p ≡ x ++ (p ++ z)
@@ -215,39 +202,6 @@ module _ (l : List ℕ) (a e b d : ℕ) (p q : List ℕ) (ae : a ≤ e) (eb : e 
       (λ i h k. early i (omega arith) ∙ splice-at-in l a e p ae (omega arith) pl i h k)
       (λ i h k. late i h (decLt i b) (decLt i d))
 
--- a part of a part written over
-module _ (l : List ℕ) (a e b d : ℕ) (p : List ℕ) (bd : b ≤ d) (de : d ≤ e - a) (el : e ≤ length l) where
-  beyond : drop (d - b) (drop b (between l a e)) ++ drop (e - a) (drop a l) ≡ drop (d - b) (drop b (drop a l))
-  beyond =
-      let q : b + (d - b) ≡ d = omega arith in
-      let long : d ≤ length (between l a e) = simp (length-take, length-drop) (omega arith) in
-      ap (λ (z : List ℕ). z ++ drop (e - a) (drop a l)) (drop-drop (d - b) b (between l a e) ∙ ap (λ (n : ℕ). drop n (between l a e)) q)
-      ∙ sym (drop-append-le d (between l a e) (drop (e - a) (drop a l)) long)
-      ∙ ap (drop d) (take-append-drop (e - a) (drop a l))
-      ∙ ap (λ (n : ℕ). drop n (drop a l)) (sym q)
-      ∙ sym (drop-drop (d - b) b (drop a l))
-
-  pub splice-part : splice l a e (splice (between l a e) b d p) ≡ splice l (a + b) (a + d) p
-  unfolding splice
-  splice-part =
-      let z = drop (d - b) (drop b (between l a e)) in
-      let w = drop (e - a) (drop a l) in
-      let k : d - b ≡ a + d - (a + b) = omega arith in
-      ap (λ (y : List ℕ). take a l ++ y) (append-assoc (take b (between l a e)) (p ++ z) w ∙ ap (λ (y : List ℕ). take b (between l a e) ++ y) (append-assoc p z w))
-      ∙ ap (λ (y : List ℕ). take a l ++ (y ++ (p ++ (z ++ w)))) (take-take b (e - a) (drop a l) (omega arith))
-      ∙ ap (λ (y : List ℕ). take a l ++ (take b (drop a l) ++ (p ++ y))) beyond
-      ∙ sym (append-assoc (take a l) (take b (drop a l)) (p ++ drop (d - b) (drop b (drop a l))))
-      ∙ ap (λ (y : List ℕ). y ++ (p ++ drop (d - b) (drop b (drop a l)))) (sym (take-add a b l))
-      ∙ ap (λ (y : List ℕ). take (a + b) l ++ (p ++ drop (d - b) y)) (drop-drop b a l)
-      ∙ ap (λ (n : ℕ). take (a + b) l ++ (p ++ drop n (drop (a + b) l))) k
-
-  -- and the part as it then is
-  pub between-splice : a ≤ e → length p ≡ d - b → between (splice l (a + b) (a + d) p) a e ≡ splice (between l a e) b d p
-  between-splice ae pl =
-      let part = between-length l a e ae el in
-      let inner : length (splice (between l a e) b d p) ≡ e - a = splice-length (between l a e) b d p bd (omega arith) pl ∙ part in
-      ap (λ (z : List ℕ). between z a e) (sym splice-part) ∙ splice-same l a e (splice (between l a e) b d p) ae el inner
-
 -- one element of a part written
 pub splice-set : (l : List ℕ) (a e i v : ℕ) → i < e - a → splice l a e (set (between l a e) i v) ≡ set l (a + i) v
 unfolding splice
@@ -257,10 +211,3 @@ splice-set l a e i v h =
     ∙ ap (λ (z : List ℕ). take a l ++ (take (e - a) z ++ drop (e - a) z)) (drop-set-add a l i v)
     ∙ ap (λ (z : List ℕ). take a l ++ (z ++ drop (e - a) (set (drop a l) i v))) (take-set-lt (e - a) (drop a l) i v h)
     ∙ ap (λ (z : List ℕ). take a l ++ (set (between l a e) i v ++ z)) (drop-set-lt (e - a) (drop a l) i v h))
-
--- one element written, as a part
-pub splice-one : (l : List ℕ) (i v : ℕ) → i < length l → splice l i (i + 1) (v ∷ []) ≡ set l i v
-splice-one l i v h =
-    let q : i + 1 - i ≡ 1 = omega arith in
-    let one : set (between l i (i + 1)) 0 v ≡ v ∷ [] = ap (λ (n : ℕ). set (take n (drop i l)) 0 v) q ∙ ap (λ (z : List ℕ). set (take 1 z) 0 v) (drop-cons l i 0 h) in
-    ap (splice l i (i + 1)) (sym one) ∙ splice-set l i (i + 1) 0 v (omega arith) ∙ ap (λ (n : ℕ). set l n v) (let w : i + 0 ≡ i = omega arith in w)

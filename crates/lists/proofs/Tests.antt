@@ -77,11 +77,6 @@ zeros-at (suc n) (suc i) = zeros-at n i
 pub zeros-all : (n b : ℕ) → all (atMost b) (replicate n 0) ≡ true
 zeros-all n b = all-replicate (atMost b) n 0 (le-leb 0 b (omega arith))
 
--- a weaker test
-pub all-weaken : (p q : ℕ → Bool) → ((x : ℕ) → p x ≡ true → q x ≡ true) → (l : List ℕ) → all p l ≡ true → all q l ≡ true
-all-weaken p q h [] e = refl
-all-weaken p q h (x ∷ xs) e = and-both (h x (both (p x) (all p xs) e .0)) (all-weaken p q h xs (both (p x) (all p xs) e .1))
-
 -- ---- the first that passes
 module _ (p : ℕ → Bool) where
   pub first-le : (l : List ℕ) → first p l ≤ length l
@@ -118,11 +113,6 @@ module _ (p : ℕ → Bool) where
   first-is (x ∷ xs) zero h t b = ap (λ (c : Bool). choose c 0 (suc (first p xs))) t
   first-is (x ∷ xs) (suc i) h t b =
       ap (λ (c : Bool). choose c 0 (suc (first p xs))) (b 0 (omega arith)) ∙ ap suc (first-is xs i (omega arith) t (λ j k. b (suc j) (omega arith)))
-
-  pub first-nowhere : (l : List ℕ) → ((j : ℕ) → j < length l → p (getD l j 0) ≡ false) → first p l ≡ length l
-  first-nowhere [] b = refl
-  first-nowhere (x ∷ xs) b =
-      ap (λ (c : Bool). choose c 0 (suc (first p xs))) (b 0 (omega arith)) ∙ ap suc (first-nowhere xs (λ j k. b (suc j) (omega arith)))
 
   -- ---- the last that passes
   pub past-le : (l : List ℕ) → past p l ≤ length l
@@ -257,26 +247,3 @@ rises-by lo [] h k = refl
 rises-by lo (x ∷ xs) h k =
     rises-cons lo x xs (h 0 (omega arith) .0) (h 0 (omega arith) .1)
     (rises-by (x + 1) xs (λ i b. (omega (arith, k 0 (suc i) (omega arith) (omega arith)), h (suc i) (omega arith) .1)) (λ i j b d. k (suc i) (suc j) (omega arith) (omega arith)))
-
-pub rises-weaken : (lo hi : ℕ) (l : List ℕ) → lo ≤ hi → rises hi l ≡ true → rises lo l ≡ true
-rises-weaken lo hi [] h e = refl
-rises-weaken lo hi (x ∷ xs) h e =
-    let a = rises-parts hi x xs e in
-    rises-cons lo x xs (omega arith) (a .1) (a .2)
-
-pub rises-take : (n lo : ℕ) (l : List ℕ) → rises lo l ≡ true → rises lo (take n l) ≡ true
-rises-take zero lo l e = refl
-rises-take (suc n) lo [] e = refl
-rises-take (suc n) lo (x ∷ xs) e =
-    let a = rises-parts lo x xs e in
-    rises-cons lo x (take n xs) (a .0) (a .1) (rises-take n (x + 1) xs (a .2))
-
-pub rises-drop : (n lo : ℕ) (l : List ℕ) → rises lo l ≡ true → rises lo (drop n l) ≡ true
-rises-drop zero lo l e = e
-rises-drop (suc n) lo [] e = refl
-rises-drop (suc n) lo (x ∷ xs) e =
-    let a = rises-parts lo x xs e in
-    rises-drop n lo xs (rises-weaken lo (x + 1) xs (omega arith) (a .2))
-
-pub rises-between : (lo : ℕ) (l : List ℕ) (a e : ℕ) → rises lo l ≡ true → rises lo (between l a e) ≡ true
-rises-between lo l a e h = rises-take (e - a) lo (drop a l) (rises-drop a lo l h)
