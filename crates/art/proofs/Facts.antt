@@ -2,13 +2,11 @@
 use mathlib.Core.Path.{_≡_, refl, ap, ap₂, _∙_}
 use mathlib.Core.Option.{Option, none, some}
 use mathlib.Core.List.{List, [], _∷_, _++_}
-use Prim.Native.Nat.{ℕ, suc, _+_, _-_, _≤_, _<_, max}
+use Prim.Native.Nat.{suc, _+_, _-_, _≤_, _<_, max}
 use native.Mathlib.Omega.{arith}
-use lib.ListN.{length, take, drop, length-append}
-use lib.Seq.{take-append-seam, drop-append-seam}
+use lib.ListN.{length, length-append}
 use Rattle.art.specs.Tags.{Tag, Listing}
-use Rattle.art.proofs.Listings.{every-all, every-under}
-use Rattle.art.specs.Listings.{Every, under}
+use Rattle.art.specs.Listings.{under}
 use Rattle.art.specs.Trees.{Tree, leaf, inner, Row, end, child, contents, row-contents, Good, GoodRow}
 use Rattle.art.proofs.Drawings.{filled, some-filled, many-some, erase-is-draw}
 use Rattle.art.specs.Drawings.{Filled, Some, longest, erase, erase-row, draw}
@@ -61,13 +59,6 @@ module _ {A : Type 0} where
   -- the tags alone say how many inner records are used
   pub used-inner : (t : Tree A) → Good t → forks t ≡ branchings (draw (contents t))
   used-inner t g = forks-drawn t [] ∙ ap branchings (erase-is-draw t g)
-
-  -- ── the whole run stands in every leaf below ──
-  -- every tag below a record has its whole run after the path
-  pub run-below : (p : Tag) (k n : ℕ) (run : Tag) (r : Row A) → Every (λ t. take (length run) (drop (length p) t) ≡ run) (under p (contents (inner k n run r)))
-  run-below p k n run r =
-      every-under _ p (under run (row-contents r)) (every-under (λ s. take (length run) (drop (length p) (p ++ s)) ≡ run) run (row-contents r)
-      (every-all _ (λ z. rw (drop-append-seam p (run ++ z)) (take-append-seam run z)) (row-contents r)))
 
   first-leaf-held : (s : Tag) (a : A) (room : Option Plan) → (Sane (first-leaf s a room)) × (held (first-leaf s a room) ≡ put-room s a room [])
   first-leaf-held s a none = (tt, refl)

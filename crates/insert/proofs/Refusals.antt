@@ -213,11 +213,6 @@ plan-answers {words} {keys} s tag bytes = go (s .tree) (sound-shown s) (sound-st
     go none sh st = first-answers sh st tag
     go (some t) sh st = tree-answers sh st tag bytes
 
--- the point of a tag in a sound block is never lost
-pub never-broken : {words keys : List ℕ} (s : Sound words keys) (tag : List ℕ) → Bytes tag → planOf (frame words) words keys tag ≢ Broken
-never-broken {words} {keys} s tag bytes e =
-    subst (Answers (judge tag (held (s .tree))) (LeavesFull (frame words) (store-of (s .tree))) (Lacking (frame words) (s .tree) tag)) e (plan-answers s tag bytes)
-
 -- ── the conditions shut each other out, so that each answer is given exactly where its own holds ──
 free-known : {X : Type 0} {v : Verdict} → v ≡ free → v ≡ known → X
 free-known a b = let z : _≡_ {A = Verdict} free known = sym a ∙ b in let y : _≡_ {A = ℕ} 0 1 = cc in absurd (omega arith)

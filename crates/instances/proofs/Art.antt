@@ -8,7 +8,7 @@ use mathlib.Core.Bool.{false}
 use native.Mathlib.Omega.{arith}
 use lib.ListN.{length}
 use Rattle.records.specs.View.{Held}
-use Rattle.art.specs.Tags.{exact}
+use Rattle.art.specs.Tags.{Before, Less, Begins, exact}
 use Rattle.art.specs.Listings.{Every, Sorted}
 use Rattle.art.specs.Puts.{Apart}
 use Rattle.art.specs.Trees.{Tree, leaf, inner, child, end, contents, Good}
@@ -30,6 +30,7 @@ use Rattle.art.specs.Visit.{at-start, passed, visit, and-then}
 use Rattle.art.specs.Witness.{by-number, probe}
 use Rattle.art.specs.Check.{Ended, Checked}
 use Rattle.art.specs.Chain as chain
+use Rattle.art.proofs.Tags.{before-less, before-not-begins, before-not-begun, before-of}
 use Rattle.art.proofs.Trees.{sorted}
 use Rattle.art.proofs.Walks.{search-is-find, store-shows}
 use Rattle.art.proofs.Orders.{least-first, greatest-last, from-after}
@@ -54,6 +55,22 @@ use Rattle.frames.specs.Frame.{frame}
 use Rattle.instances.specs.Opened.{opened}
 use Rattle.instances.specs.Blocks.{CtoJ, long, parted, J1, J2, AX, holding, entry, long-tags, parted-tags}
 use Rattle.instances.proofs.Sounds.{long-sound, parted-sound, long-tree, parted-tree}
+
+-- ── ABCDEFGHIJ1 comes before AX, by its second byte ──
+J1-before : Before J1 AX
+J1-before = inr (refl, inl (omega arith))
+
+J1-less : Less J1 AX
+J1-less = before-less J1 AX J1-before
+
+not-beginning : ¬ Begins J1 AX
+not-beginning = before-not-begins J1 AX J1-before
+
+not-begun : ¬ Begins AX J1
+not-begun = before-not-begun J1 AX J1-before
+
+J1-again : Before J1 AX
+J1-again = before-of J1 AX J1-less not-beginning
 
 -- ── the two trees: good, and no record twice ──
 abbrev σ : Store Held

@@ -5,7 +5,7 @@ use mathlib.Core.List.{List, [], _∷_}
 use mathlib.Core.Bool.{true, false}
 use native.Mathlib.Omega.{arith}
 use lib.ListN.{length, getD, take}
-use Rattle.lists.specs.Scan.{nonzero, all, first, past, nth, rises}
+use Rattle.lists.specs.Scan.{nonzero, all, nth, rises}
 use Rattle.lists.specs.Compare.{shared, less}
 use Rattle.lists.specs.Edit.{shiftIn, shiftOut}
 use Rattle.lists.specs.Part.{between, splice}

@@ -165,11 +165,6 @@ module _ (run tag : List ℕ) (depth : ℕ) where
       let q : length run ≡ capped (length run) = omega arith in
       (ap (λ (m : ℕ). take m (drop depth tag)) q ∙ b .0 ∙ take-all 8 run h, b .1 ∙ sym (stored-on (length run) h))
 
-  -- once bytes were skipped only the room counts
-  pub run-room : depth + length run < length tag → matchOf (prefixOf run) tag depth Optimistic ≡ On (depth + length run) Optimistic
-  unfolding matchOf prefixOf
-  run-room r = sym (length-on (length run) (length tag) depth r)
-
   -- off the prefix, the number is how many of the run's stored bytes are the tag's
   pub run-off : {j : ℕ} → matchOf (prefixOf run) tag depth Pessimistic ≡ Off j → j ≡ shared (take 8 run) (drop depth tag)
   run-off e = match-off (prefixOf run) tag depth e ∙ run-agreed

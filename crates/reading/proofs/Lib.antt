@@ -6,5 +6,4 @@ pub mod Nexts
 pub mod Frees
 pub mod Answers
 pub mod Calls
-mod Examples
 mod Rows

@@ -96,7 +96,7 @@ fn edge_ended(s: EdgeStep) -> Found
     }
 }
 
-// The way down from the root, with the steps counted as in the walk.
+// The way down from a record, with the steps counted as in the walk.
 pub fn edge_walk(words: &[u32], keys: &[u8], f: Frame, edge: Edge, root: u32) -> Found
     requires { ⌜ FrameOf f (now words) (now keys) ⌝ }
     ensures { λ r. ⌜ r ≡ edgeOf f (now (words .entry)) (now (keys .entry)) edge (f .form .limit) root ⌝ }

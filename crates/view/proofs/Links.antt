@@ -1,4 +1,4 @@
--- The links written: a leaf's words 2 and 3, or the trailer's first and last; no cell, rule or blankness of a place in use goes by them, and the block's links change as the mathematics' do.
+-- The links written: a leaf's words 2 and 3, or the trailer's first and last; no cell, rule or blankness of a place in use goes by them.
 use Prim.Native.Nat.{ℕ, _+_, _*_}
 use mathlib.Core.Path.{_≡_, sym, ap, ap₂, subst, _∙_}
 use mathlib.Core.Logic.{inl, inr, _≢_}
@@ -13,11 +13,11 @@ use Rattle.lists.proofs.Tests.{all-fails}
 use Rattle.lists.proofs.Parts.{splice-set}
 use Rattle.frames.specs.Frame.{FrameOf}
 use Rattle.records.specs.Own.{leafOk, totalOf}
-use Rattle.frames.specs.Place.{placeAt, refOf, inPool, startAt, recordAt, keyAt, putAt}
+use Rattle.frames.specs.Place.{placeAt, inPool, startAt, recordAt, keyAt, putAt}
 use Rattle.records.specs.View.{leafCell, cellOf}
 use Rattle.frames.specs.declared.frame.Frame.{Frame}
-use Rattle.frames.proofs.Places.{place-leaf, inner-kind, record-length}
-use Rattle.art.specs.Stores.{Place, leaf-place, inner-place, place-dec}
+use Rattle.frames.proofs.Places.{place-leaf, record-length}
+use Rattle.art.specs.Stores.{Place, leaf-place, place-dec}
 use Rattle.art.specs.Chain.{leaf-ref}
 use Rattle.pools.specs.Link.{LeafOrEnd, setTrailer, setNext, setPrevious, setLink}
 use Rattle.view.specs.Cells.{wordZero, Same}
@@ -155,8 +155,3 @@ module _ {f : Frame} {words keys : List ℕ} (w : FrameOf f words keys) (ref v :
   pub previous-keeps : UsedOrEnd f words keys ref → (x : Place) → inPool f x ≡ true → Same f words keys (setPrevious f ref v words) keys x
   unfolding setPrevious
   previous-keeps = link-keeps w previous-way v ref
-
--- no such reference names an inner record
-pub inner-ref : {f : Frame} {words keys : List ℕ} → FrameOf f words keys → (ref : ℕ) → LeafOrEnd f ref → (k n : ℕ) → inPool f (inner-place k n) ≡ true → refOf (inner-place k n) ≢ ref
-inner-ref w ref (inl e) k n h q = let r = inner-kind w k n h in omega arith
-inner-ref w ref (inr u) k n h q = let r = inner-kind w k n h in omega (arith, u .1)

@@ -1,4 +1,4 @@
--- `leaf::leaf_facts` meets its contract: a leaf that obeys its rule lies within the words, and each arm is a case of `factsFrom`.
+-- `leaves::leaf_facts` meets its contract: a leaf that obeys its rule lies within the words, and each arm is a case of `factsFrom`.
 use mathlib.Core.Path.{sym, ap, _∙_}
 use Rattle.tree.specs.Answer.{factsHere}
 use Rattle.tree.proofs.Arrivals.{frame-out}

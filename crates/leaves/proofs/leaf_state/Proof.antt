@@ -1,4 +1,4 @@
--- `leaf::leaf_state` meets its contract: each return is a case of `leafState`; a leaf of the pool lies within the slices.
+-- `leaves::leaf_state` meets its contract: each return is a case of `leafState`; a leaf of the pool lies within the slices.
 use native.Mathlib.Omega.{arith}
 use borrow.Author.Tests.{le-ltb}
 use Rattle.frames.proofs.Frames.{framed, caps-most}

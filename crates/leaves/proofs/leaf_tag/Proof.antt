@@ -1,4 +1,4 @@
--- `leaf::leaf_tag` meets its contract: a tag with bytes is a good leaf's, and lies within its key bytes.
+-- `leaves::leaf_tag` meets its contract: a tag with bytes is a good leaf's, and lies within its key bytes.
 use mathlib.Core.Path.{sym, _∙_}
 use native.Mathlib.Omega.{arith}
 use Rattle.tree.proofs.Arrivals.{fails, holds, frame-out}

@@ -1,4 +1,4 @@
--- `leaf::next_leaf` meets its contract: the next reference is word 3 of a leaf that lies within the words, and each arm is a case of `nextFrom`.
+-- `leaves::next_leaf` meets its contract: the next reference is word 3 of a leaf that lies within the words, and each arm is a case of `nextFrom`.
 use mathlib.Core.Path.{sym, ap, _∙_}
 use native.Mathlib.Omega.{arith}
 use Rattle.leaves.specs.Leaf.{nextOf}

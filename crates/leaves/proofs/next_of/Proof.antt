@@ -1,4 +1,4 @@
--- `leaf::next_of` meets its contract: each return is a case of `nextOf`; a leaf of the pool lies within the words.
+-- `leaves::next_of` meets its contract: each return is a case of `nextOf`; a leaf of the pool lies within the words.
 use mathlib.Core.Path.{_∙_}
 use native.Mathlib.Omega.{arith}
 use Rattle.frames.proofs.Frames.{framed}

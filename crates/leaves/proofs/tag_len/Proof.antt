@@ -1,4 +1,4 @@
--- `leaf::tag_len` meets its contract: the length stands in the leaf's word 1.
+-- `leaves::tag_len` meets its contract: the length stands in the leaf's word 1.
 use mathlib.Core.Path.{sym, _∙_}
 use native.Mathlib.Omega.{arith}
 use Rattle.leaves.proofs.Leaves.{good-leaf, good-word, len-by}
