@@ -10,7 +10,7 @@ use Rattle.art.specs.Trees.{Tree, leaf, contents}
 use Rattle.art.specs.Nodes.{show, walk, meets-dec}
 use Rattle.art.specs.Drawings.{one, branch, done, kid, erase, draw}
 use Rattle.art.specs.Changes.{Plan, grow, meet}
-use Rattle.art.specs.Deletes.{Home, stay, change}
+use Rattle.art.specs.Deletes.{stay, change}
 
 -- addresses, which no drawing shows
 abbrev plan : Plan

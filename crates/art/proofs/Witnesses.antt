@@ -29,7 +29,7 @@ ite-some (no n) o y e = none-some e
 
 -- ── what a row asks of a witness ──
 -- a witness goes on from its own first e bytes where it is longer, and has the byte there
-longer : (e b : ℕ) (t : Tag) → take (suc e) t ≡ take e t ++ b ∷ [] → e < length t
+pub longer : (e b : ℕ) (t : Tag) → take (suc e) t ≡ take e t ++ b ∷ [] → e < length t
 longer e b t h = omega (arith, length-take (suc e) t, length-take e t, length-append (take e t) (b ∷ []), ap length h)
 
 begin-take : (d : ℕ) (w : Tag) → Begins (take d w) w

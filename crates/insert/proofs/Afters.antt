@@ -23,16 +23,16 @@ use Rattle.art.specs.Deletes.{held}
 use Rattle.art.specs.Puts.{less-dec}
 use Rattle.art.specs.Orders.{after}
 use Rattle.art.specs.Members.{In, Different}
-use Rattle.art.specs.Chain.{Linked, leaf-ref, head-of, numbers, leaves-of}
+use Rattle.art.specs.Chain.{leaf-ref, head-of, leaves-of}
 use Rattle.art.specs.Stores.{leaf-place}
 use Rattle.art.proofs.Members.{in-right}
-use Rattle.art.proofs.Chains.{linked-after, linked-here}
-use Rattle.art.proofs.Leaves.{leaves-different, numbers-append}
+use Rattle.art.proofs.Chains.{linked-after}
+use Rattle.art.proofs.Leaves.{leaves-different}
 use Rattle.view.specs.Links.{linksOf}
-use Rattle.view.proofs.Chains.{link-in-pool}
 use Rattle.view.proofs.Views.{used-place}
 use Rattle.reading.specs.Shown.{Shown}
 use Rattle.reading.proofs.Entries.{numbers-held, entry-seen, entry-obeys}
+use Rattle.reading.proofs.Nexts.{numbersOf, next-word}
 use Rattle.pointed.proofs.Neighbours.{leaf-used}
 use Rattle.range.specs.Range.{below, leafStep, stepOf, afterFrom, afterFirst, afterIs}
 use Rattle.range.specs.declared.After.the-variants.{Leaf, Missing}
@@ -63,9 +63,6 @@ less-no (x ∷ s) (y ∷ t) h =
     go : Dec (x ≡ y) → (¬ Less s t → less s t ≡ false) → eqb x y && less s t ≡ false
     go (yes e) rec = ap₂ (λ (b c : Bool). b && c) (eq-eqb x y e) (rec (λ l. h (inr (e, l))))
     go (no ne) rec = ap (λ (b : Bool). b && less s t) (ne-eqb x y ne)
-
-abbrev numbersOf : Listing Held → List ℕ
-numbersOf l = numbers (λ (h : Held). h .number) l
 
 numbers-length : (l : Listing Held) → length (numbersOf l) ≡ length l
 numbers-length [] = refl
@@ -117,20 +114,11 @@ module _ {f : Frame} {words keys : List ℕ} {d : Option (Tree Held)} (s : Shown
     tag-less : (e : Tag × Held) (i : In e (held d)) (b : Bool) → less (e .0) tag ≡ b → less (take (getD (recordAt f words (leaf-place (e .1 .number))) 1 0) (keyAt f keys (e .1 .number))) tag ≡ b
     tag-less e i b h = ap (λ (t : List ℕ). less t tag) (sym (entry-seen s e i .tag-is)) ∙ h
 
-    -- the reference after an entry's leaf is that of the next entry
-    next-word : (front : Listing Held) (e : Tag × Held) (rest : Listing Held) → held d ≡ front ++ e ∷ rest → In e (held d)
-        → getD (recordAt f words (leaf-place (e .1 .number))) 3 0 ≡ head-of (numbersOf rest)
-    unfolding linksOf
-    next-word front e rest q i =
-        let n = e .1 .number in
-        let order : leaves-of d ≡ numbersOf front ++ n ∷ numbersOf rest = sym (numbers-held s) ∙ ap numbersOf q ∙ numbers-append (λ (h : Held). h .number) front (e ∷ rest) in
-        sym (link-in-pool f words 3 n (entry-seen s e i .pool)) ∙ linked-here (linksOf f words) (numbersOf front) n (numbersOf rest) (subst (Linked (linksOf f words) 0) order (s .linked)) .1
-
     walk-from : (rest front : Listing Held) → held d ≡ front ++ rest → (left : ℕ) → length rest < left → (ref : ℕ) → ref ≡ head-of (numbersOf rest)
         → afterFrom f words keys tag left ref ≡ afterIs (after tag rest)
     walk-from [] front q left l ref r = after-end f words keys tag left ref Missing (omega arith) (sym (step-end f words keys tag ref r))
     walk-from (e ∷ rest) front q left l ref r =
-        go (less-dec (e .0) tag) (walk-from rest (front ++ e ∷ []) (q ∙ sym (append-assoc front (e ∷ []) rest)) (left - 1) (omega arith) (getD (recordAt f words (leaf-place (e .1 .number))) 3 0) (next-word front e rest q here))
+        go (less-dec (e .0) tag) (walk-from rest (front ++ e ∷ []) (q ∙ sym (append-assoc front (e ∷ []) rest)) (left - 1) (omega arith) (getD (recordAt f words (leaf-place (e .1 .number))) 3 0) (next-word s front e rest q here))
       where
         here : In e (held d)
         here = subst (In e) (sym q) (in-right e front (e ∷ rest) (inl refl))

@@ -1,7 +1,6 @@
 -- The plan on a sound block answers exactly as the sorted list and the free records say: the point judges the tag as the list does, and a free record is found where there is one.
 use Prim.Native.Nat.{ℕ, suc, _≤_, _/_, _%_}
 use mathlib.Core.Path.{_≡_, refl, sym, ap, subst, _∙_}
-use mathlib.Core.Logic.{_≢_}
 use mathlib.Core.List.{List, []}
 use mathlib.Core.Option.{Option, none, some}
 use mathlib.Core.Bool.{Bool, true, false}

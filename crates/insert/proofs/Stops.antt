@@ -11,14 +11,10 @@ use Rattle.frames.specs.declared.frame.Frame.{Frame}
 use Rattle.records.specs.Own.{totalOf}
 use Rattle.art.specs.Stores.{Place, leaf-place, inner-place}
 use Rattle.range.specs.Range.{below, leafStep, placeStep, stepOf, afterFrom}
-use Rattle.range.specs.declared.After.{After}
 use Rattle.range.specs.declared.After.the-variants.{Leaf, Missing, Damaged}
 use Rattle.range.specs.declared.Step.{Step}
 use Rattle.range.specs.declared.Step.the-variants.{Next, Final}
-
-module _ (f : Frame) (words keys tag : List ℕ) where
-  abbrev on : ℕ → Step → After
-  on left s = elim s [ Next r ↦ afterFrom f words keys tag left r | Final a ↦ a ]
+use Rattle.range.proofs.Steps.{go-on}
 
 module _ (f : Frame) (words keys tag : List ℕ) {n total : ℕ} where
   -- a step that answers with a leaf answers with the one that it looks at
@@ -50,7 +46,7 @@ module _ (f : Frame) (words keys tag : List ℕ) {n total : ℕ} where
       go false e = place-pool (placeAt ref) e
 
   on-pool : (left ref : ℕ) → ((r : ℕ) → afterFrom f words keys tag left r ≡ Leaf n total → inPool f (leaf-place n) ≡ true)
-      → (s : Step) → stepOf f words keys tag ref ≡ s → on f words keys tag left s ≡ Leaf n total → inPool f (leaf-place n) ≡ true
+      → (s : Step) → stepOf f words keys tag ref ≡ s → go-on f words keys tag left s ≡ Leaf n total → inPool f (leaf-place n) ≡ true
   on-pool left ref h (Next r) q e = h r e
   on-pool left ref h (Final a) q e = step-pool ref (q ∙ ap Final e)
 

@@ -1,5 +1,5 @@
 -- The plan of an insert: overwrite a held tag; else 3, 4, 5; else where the new leaf goes.
-use Prim.Native.Nat.{ℕ, suc, _+_, _*_, _%_}
+use Prim.Native.Nat.{ℕ, suc, _%_}
 use mathlib.Core.List.{List}
 use lib.ListN.{getD}
 use lib.Dec.{eqb, ltb}

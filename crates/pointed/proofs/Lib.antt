@@ -1,7 +1,6 @@
 mod Agrees
 mod Lowest
 mod Runs
-mod Kids
 mod Ways
 pub mod Points
 pub mod Heights

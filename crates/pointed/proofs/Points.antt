@@ -39,7 +39,7 @@ use Rattle.reading.proofs.Arrivals as arrival
 use Rattle.reading.proofs.Entries.{shown-root, zero-unused, tree-shows, few-inner}
 use Rattle.pointed.specs.Told.{upTold, told}
 use Rattle.pointed.proofs.Lowest.{tag-seen, lowest-below}
-use Rattle.pointed.proofs.Kids.{KidOf, row-kid}
+use Rattle.reading.proofs.Kids.{KidOf, row-kid}
 use Rattle.pointed.proofs.Runs.{run-agrees}
 use Rattle.pointed.proofs.Ways.{leaf-ref, inner-ref, leaf-told, after, way-on, step-by, SameKid, run-told}
 
@@ -74,7 +74,7 @@ module _ {f : Frame} {words keys : List ℕ} (w : FrameOf f words keys) (rules :
       → (let byte = getD tag (d + length run) 0 in
       SameKid (λ c. pointFrom f words keys tag left c (d + length run + 1) up (Via ref byte)) (childAt (f .form) k (recordAt f words (inner-place k n)) byte) (find-ref (refs r) byte)
       (λ y. art.seek m i (cellOf f words keys) tag y (suc (d + length run)) (upTold up) (art.via k n byte)))
-  kid-same left k n p run r g h l few lm i li ref e d ed up law = go (row-kid (cellOf f words keys) r g (p ++ run) (h .1) row (s .refs-are) byte)
+  kid-same left k n p run r g h l few lm i li ref e d ed up law = go (row-kid (cellOf f words keys) r (p ++ run) (h .1) row (s .refs-are) byte)
     where
       row : List (ℕ × ℕ)
       row = rowAt (f .form) k (recordAt f words (inner-place k n))
@@ -91,7 +91,7 @@ module _ {f : Frame} {words keys : List ℕ} (w : FrameOf f words keys) (rules :
       next-is : next ≡ refFor byte row
       next-is = row-rule (inner-obeys w s (rules (inner-place k n) (rw (h .0) tt)) .fits) .child-for byte (bytes (d + length run))
 
-      go : ((refFor byte row ≡ 0) × (find-ref (refs r) byte ≡ none)) ⊎ KidOf (cellOf f words keys) (p ++ run) (refFor byte row) (row-height r) (find-ref (refs r) byte)
+      go : ((refFor byte row ≡ 0) × (find-ref (refs r) byte ≡ none)) ⊎ KidOf (cellOf f words keys) r (p ++ run) (refFor byte row) (find-ref (refs r) byte)
           → SameKid (λ c. pointFrom f words keys tag left c (d + length run + 1) up (Via ref byte)) next (find-ref (refs r) byte)
           (λ y. art.seek m i (cellOf f words keys) tag y (suc (d + length run)) (upTold up) (art.via k n byte))
       go (inl z) = inl (next-is ∙ z .0, z .1)
@@ -107,7 +107,7 @@ module _ {f : Frame} {words keys : List ℕ} (w : FrameOf f words keys) (rules :
             root (z .tree),
             z .finds,
             ap (λ (j : ℕ). told (pointFrom f words keys tag left next j up (Via ref byte))) (let j : d + length run + 1 ≡ suc (d + length run) = omega arith in j)
-                ∙ law (z .tree) (z .good) path (z .shows) (omega (arith, z .low)) (omega (arith, z .low)) (omega (arith, z .low)) i (omega (arith, z .low)) next named (suc (d + length run)) deep up (Via ref byte)
+                ∙ law (z .tree) (z .good g) path (z .shows) (omega (arith, z .low)) (omega (arith, z .low)) (omega (arith, z .low)) i (omega (arith, z .low)) next named (suc (d + length run)) deep up (Via ref byte)
                 ∙ ap₂ (λ (a b : ℕ). art.seek m i (cellOf f words keys) tag (root (z .tree)) (suc (d + length run)) (upTold up) (art.via a b byte)) (q .0) (q .1),
           )
 

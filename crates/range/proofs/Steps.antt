@@ -80,7 +80,7 @@ module _ (f : Frame) (words keys tag : List ℕ) (ref : ℕ) where
 
 -- ---- from a reference on
 module _ (f : Frame) (words keys tag : List ℕ) where
-  abbrev go-on : ℕ → Step → After
+  abbrev pub go-on : ℕ → Step → After
   go-on left s = elim s [ Next r ↦ afterFrom f words keys tag left r | Final a ↦ a ]
 
   pub after-next : (left ref r : ℕ) → 0 < left → stepOf f words keys tag ref ≡ Next r → afterFrom f words keys tag left ref ≡ afterFrom f words keys tag (left - 1) r

@@ -1,5 +1,6 @@
 pub mod Entries
 pub mod Arrivals
+pub mod Kids
 pub mod Walks
 pub mod Edges
 pub mod Nexts

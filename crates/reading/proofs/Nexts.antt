@@ -4,12 +4,10 @@ use mathlib.Core.Path.{_≡_, refl, sym, ap, ap₂, subst, _∙_}
 use mathlib.Core.Logic.{inl, inr}
 use mathlib.Core.List.{List, [], _∷_, _++_, append-assoc}
 use mathlib.Core.Option.{Option}
-use mathlib.Core.Bool.{Bool, true}
 use native.Mathlib.Omega.{arith}
 use borrow.Author.Tests.{ne-eqb}
 use lib.ListN.{length, getD}
 use Rattle.art.proofs.Leaves.{numbers-append}
-use Rattle.lists.specs.Scan.{choose}
 use Rattle.frames.specs.Place.{placeAt, inPool, startAt, recordAt}
 use Rattle.frames.specs.declared.frame.Frame.{Frame}
 use Rattle.frames.proofs.Places.{place-leaf}
@@ -29,18 +27,15 @@ use Rattle.art.specs.Stores.{leaf-place}
 use Rattle.art.proofs.Members.{in-right}
 use Rattle.art.proofs.Chains.{linked-here}
 use Rattle.view.specs.Links.{linksOf}
+use Rattle.view.proofs.Chains.{link-in-pool}
 use Rattle.reading.specs.Shown.{Shown}
 use Rattle.reading.specs.Answers.{answerOf}
 use Rattle.reading.specs.Listing.{listFrom, listOf}
 use Rattle.reading.proofs.Entries.{numbers-held, entry-seen, entry-rule, entry-obeys}
 use Rattle.reading.proofs.Edges.{minimum-shown}
 
-abbrev numbersOf : Listing Held → List ℕ
+abbrev pub numbersOf : Listing Held → List ℕ
 numbersOf l = numbers (λ (h : Held). h .number) l
-
-next-word : (f : Frame) (words : List ℕ) (n : ℕ) → inPool f (leaf-place n) ≡ true → linksOf f words .next n ≡ getD (recordAt f words (leaf-place n)) 3 0
-unfolding linksOf
-next-word f words n p = ap (λ (b : Bool). choose {A = ℕ} b (getD (recordAt f words (leaf-place n)) 3 0) 0) p
 
 module _ {f : Frame} {words keys : List ℕ} {d : Option (Tree Held)} (s : Shown f words keys d) where
   -- ── the calls on the number of an entry ──
@@ -74,16 +69,23 @@ module _ {f : Frame} {words keys : List ℕ} {d : Option (Tree Held)} (s : Shown
   next-first [] h ref q = sym (next-none f words ref q)
   next-first (e ∷ rest) h ref q = next-here e (h e (inl refl)) ref q
 
+  -- the reference after an entry's leaf is that of the next entry
+  pub next-word : (front : Listing Held) (e : Tag × Held) (rest : Listing Held) → held d ≡ front ++ e ∷ rest → In e (held d)
+      → getD (recordAt f words (leaf-place (e .1 .number))) 3 0 ≡ head-of (numbersOf rest)
+  unfolding linksOf
+  next-word front e rest q i =
+      let n = e .1 .number in
+      let order : leaves-of d ≡ numbersOf front ++ n ∷ numbersOf rest = sym (numbers-held s) ∙ ap numbersOf q ∙ numbers-append (λ (h : Held). h .number) front (e ∷ rest) in
+      sym (link-in-pool f words 3 n (entry-seen s e i .pool)) ∙ linked-here (linksOf f words) (numbersOf front) n (numbersOf rest) (subst (Linked (linksOf f words) 0) order (s .linked)) .1
+
   -- Next leaf, for a leaf of the sorted list, answers with the one after it in the list, and that there is none at its end.
   pub next-shown : (front : Listing Held) (e : Tag × Held) (rest : Listing Held) → held d ≡ front ++ e ∷ rest → nextLeafOf words keys (e .1 .number) ≡ answerOf (first-of rest)
   next-shown front e rest q =
       let n = e .1 .number in
       let within : (x : Tag × Held) → In x (e ∷ rest) → In x (held d) = λ x i. subst (In x) (sym q) (in-right x front (e ∷ rest) i) in
       let i = within e (inl refl) in
-      let order : leaves-of d ≡ numbersOf front ++ n ∷ numbersOf rest = sym (numbers-held s) ∙ ap numbersOf q ∙ numbers-append (λ (h : Held). h .number) front (e ∷ rest) in
-      let link = linked-here (linksOf f words) (numbersOf front) n (numbersOf rest) (subst (Linked (linksOf f words) 0) order (s .linked)) in
       sym (next-by (s .frame) n _ (state e i))
-      ∙ next-first rest (λ x j. within x (inr j)) (getD (recordAt f words (leaf-place n)) 3 0) (sym (next-word f words n (entry-seen s e i .pool)) ∙ link .1)
+      ∙ next-first rest (λ x j. within x (inr j)) (getD (recordAt f words (leaf-place n)) 3 0) (next-word front e rest q i)
 
   -- ── walking by next leaf ──
   list-from : (most : ℕ) (front rest : Listing Held) → held d ≡ front ++ rest → length rest ≤ most → listFrom words keys most (answerOf (first-of rest)) ≡ rest

@@ -1,16 +1,16 @@
 -- The walk of the two searches goes as the walk over the view, record by record, and so finds what the sorted list holds.
-use Prim.Native.Nat.{ℕ, zero, suc, _+_, _-_, _≤_, _<_, max}
+use Prim.Native.Nat.{ℕ, zero, suc, _+_, _-_, _≤_, _<_}
 use mathlib.Core.Path.{_≡_, refl, sym, ap, ap₂, subst, _∙_, fun-ext}
 use mathlib.Core.Logic.{_⊎_, inl, inr, ite}
-use mathlib.Core.List.{List, [], _∷_, _++_, head-eq-of-cons-eq, tail-eq-of-cons-eq}
+use mathlib.Core.List.{List, [], _∷_, _++_}
 use mathlib.Core.Option.{Option, none, some}
 use mathlib.Core.Bool.{Bool, true, false, _||_, and-false}
 use native.Mathlib.Omega.{arith}
-use native.Mathlib.Decide.{ℕ-discrete, decLe}
-use borrow.Author.Tests.{lt-ltb, le-ltb, le-leb, lt-leb, eqb-true, eqb-false}
+use native.Mathlib.Decide.{decLe}
+use borrow.Author.Tests.{lt-ltb, le-ltb, le-leb, lt-leb}
 use lib.ListN.{length, getD, take, drop, length-take}
 use lib.Seq.{take-length, take-all}
-use lib.Dec.{eqb, ltb}
+use lib.Dec.{ltb}
 use Rattle.lists.specs.Scan.{choose}
 use Rattle.lists.specs.Compare.{begins}
 use Rattle.lists.specs.Part.{between}
@@ -38,18 +38,21 @@ use Rattle.tree.specs.declared.lookup.Step.the-variants.{Next, Final}
 use Rattle.tree.proofs.Walks.{inner-off, inner-none, inner-next, step-by, walk-next, walk-end}
 use Rattle.art.specs.Tags.{Tag, Fits, fits-dec}
 use Rattle.art.specs.Listings.{find}
-use Rattle.art.specs.Trees.{Tree, leaf, inner, Row, end, child}
+use Rattle.art.specs.Trees.{Tree, leaf, inner, Row}
 use Rattle.art.specs.Nodes.{Meets, meets-dec, start}
 use Rattle.art.specs.Facts.{height, row-height}
 use Rattle.art.specs.Deletes as deletes
 use Rattle.art.specs.Stores.{Place, leaf-place, inner-place, Cell, leaf-cell, inner-cell, Store, Used, root, refs}
-use Rattle.art.specs.Walks.{walk-refs, walk-cell, walk-store, Shows, ShowsRow}
+use Rattle.art.specs.Refs.{find-ref}
+use Rattle.art.specs.Visit.{and-then}
+use Rattle.art.specs.Walks.{walk-refs, walk-cell, walk-store, Shows}
 use Rattle.art.proofs.Walks.{search-is-find}
 use Rattle.view.specs.Seen.{InnerShows, InnerObeys}
 use Rattle.view.proofs.Seen.{seen-leaf, seen-inner, leaf-obeys, inner-obeys}
 use Rattle.reading.specs.Shown.{Shown}
 use Rattle.reading.specs.Answers.{Bytes, answerOf, asked}
 use Rattle.reading.proofs.Arrivals as arrival
+use Rattle.reading.proofs.Kids.{KidOf, row-kid, walk-found}
 use Rattle.reading.proofs.Entries.{shown-root, zero-unused, tree-shows, tags-short, few-inner, root-some, root-empty}
 
 -- comparing with a leaf begins within both runs of bytes
@@ -136,41 +139,6 @@ module _ (p : Prefix) (long : length (held p) ≡ capped (p .full .0)) (tag : Li
 -- ── the walk over a block that shows a tree ──
 module _ {f : Frame} {words keys : List ℕ} (w : FrameOf f words keys) (rules : (x : Place) → Used (cellOf f words keys x) → ruleAt f words keys x ≡ true)
     (tag : List ℕ) (bytes : Bytes tag) (aim : Aim) where
-  -- the child for a byte is a tree that is shown
-  record KidOf (ref high : ℕ) (answer : Option Held) (go : Place → Option Held) : Type 0 where
-    tree : Tree Held
-    path : Tag
-    shows : Shows tree path (cellOf f words keys)
-    low : height tree ≤ high
-    names : placeAt ref ≡ root tree
-    goes : answer ≡ go (root tree)
-
-  abbrev Kid : ℕ → ℕ → Row Held → (Place → Option Held) → Type 0
-  Kid b ref r go = KidOf ref (row-height r) (walk-refs (refs r) b go) go
-
-  -- or there is none
-  row-child : (r : Row Held) (q : Tag) → ShowsRow r q (cellOf f words keys) → (row : List (ℕ × ℕ)) → refs r ≡ places row → (b : ℕ) (go : Place → Option Held)
-      → ((refFor b row ≡ 0) × (walk-refs (refs r) b go ≡ none)) ⊎ Kid b (refFor b row) r go
-  row-child end q h [] e b go = inl (refl, refl)
-  row-child end q h (x ∷ row) e b go = absurd (let z : _≡_ {A = ℕ} 0 1 = cc in omega arith)
-  row-child (child c t r) q h [] e b go = absurd (let z : _≡_ {A = ℕ} 0 1 = cc in omega arith)
-  row-child (child c t r) q h (x ∷ row) e b go = by (eqb (x .0) b) refl (ℕ-discrete b c) (row-child r q (h .1) row (tail-eq-of-cons-eq e) b go)
-    where
-      key : c ≡ x .0
-      key = ap (λ (y : ℕ × Place). y .0) (head-eq-of-cons-eq e)
-
-      at : root t ≡ placeAt (x .1)
-      at = ap (λ (y : ℕ × Place). y .1) (head-eq-of-cons-eq e)
-
-      by : (u : Bool) → eqb (x .0) b ≡ u → (d : Dec (b ≡ c)) → ((refFor b row ≡ 0) × (walk-refs (refs r) b go ≡ none)) ⊎ Kid b (refFor b row) r go
-          → ((choose u (x .1) (refFor b row) ≡ 0) × (ite d (go (root t)) (walk-refs (refs r) b go) ≡ none))
-          ⊎ KidOf (choose u (x .1) (refFor b row)) (max (height t) (row-height r)) (ite d (go (root t)) (walk-refs (refs r) b go)) go
-      by true i (yes d) ih = inr (record { tree = t; path = q ++ c ∷ []; shows = h .0; low = omega arith; names = sym at; goes = refl })
-      by true i (no d) ih = absurd (d (sym (eqb-true (x .0) b i) ∙ sym key))
-      by false i (yes d) ih = absurd (eqb-false (x .0) b i (sym key ∙ sym d))
-      by false i (no d) (inl z) = inl z
-      by false i (no d) (inr k) = inr (record { tree = k .tree; path = k .path; shows = k .shows; low = omega (arith, k .low); names = k .names; goes = k .goes })
-
   -- at a leaf
   at-leaf : (left n : ℕ) (t : Tag) (a : Held) → cellOf f words keys (leaf-place n) ≡ leaf-cell t a → (ref d : ℕ) (sk : Bool) → placeAt ref ≡ leaf-place n
       → walkOf f words keys tag aim left ref d (behaves sk) ≡ answerOf (walk-store (suc left) (cellOf f words keys) (leaf-place n) (asked aim) d sk tag)
@@ -242,29 +210,36 @@ module _ {f : Frame} {words keys : List ℕ} (w : FrameOf f words keys) (rules :
       skips : Bool
       skips = sk || ltb 8 len
 
+      down : Place → Option Held
+      down = λ y. go y (suc (d + len)) skips
+
+      found : (o : Option Place) → find-ref (refs r) byte ≡ o → and-then o down ≡ walk-refs (refs r) byte down
+      found o q = sym (walk-found (refs r) byte down ∙ ap (λ (x : Option Place). and-then x down) q)
+
       goes : matchOf pre tag d (behaves sk) ≡ On (d + len) (behaves skips)
-          → ((refFor byte row ≡ 0) × (walk-refs (refs r) byte (λ y. go y (suc (d + len)) skips) ≡ none)) ⊎ Kid byte (refFor byte row) r (λ y. go y (suc (d + len)) skips)
-          → walkOf f words keys tag aim (suc left) ref d (behaves sk) ≡ answerOf (walk-refs (refs r) byte (λ y. go y (suc (d + len)) skips))
+          → ((refFor byte row ≡ 0) × (find-ref (refs r) byte ≡ none)) ⊎ KidOf (cellOf f words keys) r (p ++ run) (refFor byte row) (find-ref (refs r) byte)
+          → walkOf f words keys tag aim (suc left) ref d (behaves sk) ≡ answerOf (walk-refs (refs r) byte down)
       goes q (inl m) =
           missing (inner-none (f .form) k rec tag d (behaves sk) pre refl (d + len) (behaves skips) q next refl (next-is ∙ m .0))
-          ∙ sym (ap answerOf (m .1))
+          ∙ ap answerOf (found none (m .1))
       goes q (inr m) =
-          let used = shown-root (cellOf f words keys) (m .path) (m .tree) (m .shows) in
+          let path = p ++ run ++ m .byte ∷ [] in
+          let used = shown-root (cellOf f words keys) path (m .tree) (m .shows) in
           let named : placeAt next ≡ root (m .tree) = ap placeAt next-is ∙ m .names in
           let nz : next ≡ 0 → ⊥ = λ i. zero-unused w (subst (λ (x : Place). Used (cellOf f words keys x)) (sym named ∙ ap placeAt i) used) in
           walk-next f words keys tag aim (suc left) ref d (behaves sk) next (d + len + 1) (behaves skips) (omega arith)
           (step (Next next (d + len + 1) (behaves skips)) (inner-next (f .form) k rec tag d (behaves sk) pre refl (d + len) (behaves skips) q next refl nz))
           ∙ ap₂ (λ (i j : ℕ). walkOf f words keys tag aim i next j (behaves skips)) (let i : suc left - 1 ≡ left = omega arith in i) (let i : d + len + 1 ≡ suc (d + len) = omega arith in i)
-          ∙ law (m .tree) (m .path) (m .shows) (omega (arith, m .low)) next (suc (d + len)) skips named
-          ∙ sym (ap answerOf (m .goes))
+          ∙ law (m .tree) path (m .shows) (omega (arith, m .low)) next (suc (d + len)) skips named
+          ∙ ap answerOf (found (some (root (m .tree))) (m .finds))
 
       by : (a : Dec (Meets sk (held pre) (drop d tag))) (b : Dec (length tag ≤ d + len))
-          → walkOf f words keys tag aim (suc left) ref d (behaves sk) ≡ answerOf (ite a (ite b none (walk-refs (places row) byte (λ y. go y (suc (d + len)) skips))) none)
+          → walkOf f words keys tag aim (suc left) ref d (behaves sk) ≡ answerOf (ite a (ite b none (walk-refs (places row) byte down)) none)
       by (no m) b = off (match-off pre long tag d sk m)
       by (yes m) (yes b) = off (match-short pre long tag d sk b)
       by (yes m) (no b) =
-          goes (match-on pre long tag d sk m (omega arith)) (row-child r (p ++ run) (h .1) row (s .refs-are) byte (λ y. go y (suc (d + len)) skips))
-          ∙ ap (λ (x : List (ℕ × Place)). answerOf (walk-refs x byte (λ y. go y (suc (d + len)) skips))) (s .refs-are)
+          goes (match-on pre long tag d sk m (omega arith)) (row-kid (cellOf f words keys) r (p ++ run) (h .1) row (s .refs-are) byte)
+          ∙ ap (λ (x : List (ℕ × Place)). answerOf (walk-refs x byte down)) (s .refs-are)
 
   walk-as : (left : ℕ) → Law left
   walk-as zero (leaf n s a) p h l ref d sk e = at-leaf zero n (p ++ s) a h ref d sk e

@@ -48,10 +48,6 @@ module _ (e : ℕ) (w : List ℕ) (b : ℕ) (t : List ℕ) where
       ∙ getD-append-add (take e w) (b ∷ []) 0 0 in
       and-both (lt-ltb e (length t) long) (and-both (le-leb e (shared w t) (shared-more w t e (omega arith) (omega arith) front)) (eq-eqb _ _ byte))
 
--- a tag goes on from itself where it is long enough
-pub goes-self : (e b : ℕ) (t : List ℕ) → take (suc e) t ≡ take e t ++ b ∷ [] → e < length t
-goes-self e b t h = omega (arith, length-take (suc e) t, length-take e t, length-append (take e t) (b ∷ []), ap length h)
-
 -- ---- stored bytes and a tag
 take-capped : (n : ℕ) (l : List ℕ) → take 8 (take n l) ≡ take (capped n) l
 take-capped n l = go (decLt 8 n)

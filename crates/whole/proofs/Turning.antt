@@ -201,26 +201,26 @@ module _ (f : Frame) (words keys : List ℕ) (left : ℕ) (row : Row) (b w : ℕ
   row-end e = ap (λ (cs : List (ℕ × ℕ)). rowBy f words keys (recordBy f words keys left) (row .depth) w cs m s) e
 
   module _ (x r : ℕ) (e : rowFrom b (rowOf f words row) ≡ (x, r) ∷ rowFrom (x + 1) (rowOf f words row)) where
-    child : Way
+    abbrev child : Way
     child = recordBy f words keys left r (row .depth + 1) m s
 
     row-child : rowWay f words keys left row b w m s
-        ≡ wayOn (childEnd f words keys (row .depth) x w (recordBy f words keys left r (row .depth + 1) m s .visit)) (recordBy f words keys left r (row .depth + 1) m s .marks)
+        ≡ wayOn (childEnd f words keys (row .depth) x w (child .visit)) (child .marks)
         (λ y m′ s′. rowWay f words keys left row (x + 1) y m′ s′)
     unfolding rowBy
     row-child = ap (λ (cs : List (ℕ × ℕ)). rowBy f words keys (recordBy f words keys left) (row .depth) w cs m s) e
 
-    pub row-ill : childEnd f words keys (row .depth) x w (recordBy f words keys left r (row .depth + 1) m s .visit) ≡ Ill
-        → rowWay f words keys left row b w m s ≡ way Ill (recordBy f words keys left r (row .depth + 1) m s .marks)
+    pub row-ill : childEnd f words keys (row .depth) x w (child .visit) ≡ Ill
+        → rowWay f words keys left row b w m s ≡ way Ill (child .marks)
     row-ill h =
         row-child
-        ∙ ap (λ (v : Visit). wayOn v (recordBy f words keys left r (row .depth + 1) m s .marks) (λ y m′ s′. rowWay f words keys left row (x + 1) y m′ s′)) h
+        ∙ ap (λ (v : Visit). wayOn v (child .marks) (λ y m′ s′. rowWay f words keys left row (x + 1) y m′ s′)) h
 
-    pub row-well : (y : ℕ) (z : Seen) → childEnd f words keys (row .depth) x w (recordBy f words keys left r (row .depth + 1) m s .visit) ≡ Well y z
-        → rowWay f words keys left row b w m s ≡ rowWay f words keys left row (x + 1) y (recordBy f words keys left r (row .depth + 1) m s .marks) z
+    pub row-well : (y : ℕ) (z : Seen) → childEnd f words keys (row .depth) x w (child .visit) ≡ Well y z
+        → rowWay f words keys left row b w m s ≡ rowWay f words keys left row (x + 1) y (child .marks) z
     row-well y z h =
         row-child
-        ∙ ap (λ (v : Visit). wayOn v (recordBy f words keys left r (row .depth + 1) m s .marks) (λ y m′ s′. rowWay f words keys left row (x + 1) y m′ s′)) h
+        ∙ ap (λ (v : Visit). wayOn v (child .marks) (λ y m′ s′. rowWay f words keys left row (x + 1) y m′ s′)) h
 
 -- ---- what is handed up
 module _ (f : Frame) (words keys : List ℕ) where

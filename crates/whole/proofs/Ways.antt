@@ -48,7 +48,8 @@ use Rattle.whole.specs.declared.well_formed.Visit.the-variants.{Well, Il
 use Rattle.tree.proofs.Arrivals.{arrive-leaf, arrive-inner, arrive-spent}
 use Rattle.whole.proofs.Marking.{reached-new, mark-off}
 use Rattle.whole.proofs.Apart.{mark-room, marks-apart}
-use Rattle.whole.proofs.Agreeing.{goes-true, true-goes, goes-self, stored-true, true-stored}
+use Rattle.whole.proofs.Agreeing.{goes-true, true-goes, stored-true, true-stored}
+use Rattle.art.proofs.Witnesses.{longer}
 use Rattle.whole.proofs.Turns.{row-none, row-some, first-none, first-some, child-ill, child-well, child-parts, record-ill, record-well, record-parts}
 use Rattle.whole.proofs.Turning.{turn-old, turn-new, branches, record-done, record-branch, row-whole}
 
@@ -255,7 +256,7 @@ module _ (f : Frame) (words keys : List ℕ) where
       go : (d : Dec (take (suc e) (tagAt f words keys (h .0)) ≡ take e (tagAt f words keys (h .0)) ++ b ∷ []))
           → Same (wayOn (childEnd f words keys e b 0 (x .visit)) (x .marks) k) (ite d (and-then (q (h .0) (h .1)) (λ s′. some (h .0, s′))) none)
       go (yes a) =
-          let l = goes-self e b (tagAt f words keys (h .0)) a in
+          let l = longer e b (tagAt f words keys (h .0)) a in
           by (Well (h .0) (i .0)) (sym (child-well f words keys e b 0 (i .1) (first-none 0 (h .0) refl) (true-goes e (tagAt f words keys (h .0)) b (tagAt f words keys (h .0)) l a)))
           (and-then (q (h .0) (h .1)) (λ s′. some (h .0, s′))) (row-up (h .0) (k (h .0) (x .marks) (i .0)) (q (h .0) (h .1)) (i .2) (r (h .0) (x .marks) (i .0) (h .1) (i .2) l (i .3)))
       go (no a) =
