@@ -1,10 +1,13 @@
 -- What a sound block asks of its tags, on what the records show: each tag below a record has every byte of its run, those that are not stored too, and each child byte.
 use mathlib.Core.Path.{_≡_}
-use mathlib.Core.List.{[], _∷_, _++_}
+use mathlib.Core.Option.{Option, none, some}
+use mathlib.Core.List.{List, [], _∷_, _++_}
 use Prim.Native.Nat.{ℕ, suc, _≤_, _<_}
 use lib.ListN.{length, take}
 use Rattle.art.specs.Tags.{Tag, Listing, Begins}
-use Rattle.art.specs.Nodes.{Node, leaf-node, inner-node, NodeRow, end-node, child-node}
+use Rattle.art.specs.Trees.{Tree, Row, Good, GoodRow}
+use Rattle.art.specs.Nodes.{Node, leaf-node, inner-node, NodeRow, end-node, child-node, show, show-row}
+use Rattle.art.specs.Stores.{Place, leaf-place, inner-place, leaf-cell, inner-cell, Store}
 use Rattle.art.specs.Drawings.{Drawing, one, branch, Kids, done, kid}
 
 module _ {A : Type 0} where
@@ -29,6 +32,40 @@ module _ {A : Type 0} where
     AgreesRow end-node q = Unit {0}
     AgreesRow (child-node b t r) q = Agrees t (q ++ b ∷ []) × NodeAbove b r × AgreesRow r q
 
+  -- the node is what is shown of a good tree below the path p, and so for a row
+  abbrev pub OfTree : Node A → Tag → Type 0
+  OfTree node p = (t : Tree A) × Good t × (show p t ≡ node)
+
+  abbrev pub OfRow : NodeRow A → Tag → Type 0
+  OfRow row q = (r : Row A) × GoodRow r × (show-row q r ≡ row)
+
+  -- ── the nodes of a store ──
+  -- the place of a node's record
+  abbrev pub node-place : Node A → Place
+  node-place (leaf-node n t a) = leaf-place n
+  node-place (inner-node k n len st r) = inner-place k n
+
+  -- the bytes of a row with the places of its children
+  abbrev pub node-refs : NodeRow A → List (ℕ × Place)
+  node-refs end-node = []
+  node-refs (child-node b t r) = (b, node-place t) ∷ node-refs r
+
+  -- the store's cells, from a node's place on, are those of the node and of the nodes below it
+  abbrev mutual
+    pub ShowsNode : Node A → Store A → Type 0
+    ShowsNode (leaf-node n t a) σ = σ (leaf-place n) ≡ leaf-cell t a
+    ShowsNode (inner-node k n len st r) σ = (σ (inner-place k n) ≡ inner-cell len st (node-refs r)) × ShowsNodes r σ
+
+    pub ShowsNodes : NodeRow A → Store A → Type 0
+    ShowsNodes end-node σ = Unit {0}
+    ShowsNodes (child-node b t r) σ = ShowsNode t σ × ShowsNodes r σ
+
+  -- where there is a tree, the store's records show it from its root on, and each tag below a record agrees
+  abbrev pub AgreesFrom : Store A → Option (Tree A) → Type 0
+  AgreesFrom σ none = Unit {0}
+  AgreesFrom σ (some t) = ShowsNode (show [] t) σ × Agrees (show [] t) []
+
+  -- ── what the records hold and draw ──
   -- the leaves in order, with their whole tags
   abbrev mutual
     pub node-contents : Node A → Listing A

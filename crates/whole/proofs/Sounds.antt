@@ -37,6 +37,8 @@ use Rattle.art.specs.Stores.{Place, leaf-place, inner-place, place-dec, Cell, u
 use Rattle.art.proofs.Stores.{used-not}
 use Rattle.art.specs.Walks.{Shows, ShowsRow}
 use Rattle.art.proofs.Walks.{store-shows}
+use Rattle.art.specs.Agree.{AgreesFrom}
+use Rattle.art.proofs.Agree.{store-agrees}
 use Rattle.art.specs.Members.{In, in-dec}
 use Rattle.art.specs.Chain.{Linked, leaves, leaves-of}
 use Rattle.art.specs.Visit.{State, at-start, spots, passed}
@@ -485,6 +487,10 @@ unfolding wholeOf wholeBy
 sound-whole words keys s =
     ap (λ (b : Bool). choose b (wholeBy (frame words) words keys) false) (s .fits)
     ∙ by-tree words keys s (s .tree) (s .good) (s .rooted) (s .once) (s .shown) (s .linked) (s .count)
+
+-- ---- each tag below a record of a sound block has every byte of the record's run, those that no record stores too, and the byte of its child
+pub sound-agrees : {words keys : List ℕ} (s : Sound words keys) → AgreesFrom (cellOf (frame words) words keys) (s .tree)
+sound-agrees {words} {keys} s = store-agrees (cellOf (frame words) words keys) (s .tree) (s .good) (s .once) (s .shown)
 
 -- ---- the call: with scratch enough it answers 0 exactly for sound blocks
 module _ (words keys scratch : List ℕ) where
