@@ -72,7 +72,7 @@ module _ {A : Type 0} where
 
     mutual
       -- and makes the same tree whatever homes are offered
-      pub any-home : (t : Tree A) (hm hm′ : Home) (u : Tag) → prune t to hm u ≡ prune t to hm′ u
+      any-home : (t : Tree A) (hm hm′ : Home) (u : Tag) → prune t to hm u ≡ prune t to hm′ u
       any-home (leaf n rest v) hm hm′ u = refl
       any-home (inner k n run r) hm hm′ u = home-inner hm hm′ k n run r u (meet u run) (λ x v. prune-row r to hm x v) (λ x v. prune-row r to hm′ x v) (λ x v. any-row-home r hm hm′ x v)
 

@@ -13,7 +13,7 @@ use Rattle.art.specs.Drawings.{Filled, Some, longest, erase, erase-row, 
 use Rattle.art.proofs.Changes.{grow-contents, grow-good}
 use Rattle.art.specs.Changes.{Plan}
 use Rattle.art.proofs.Deletes.{change-held, change-sane}
-use Rattle.art.specs.Deletes.{Home, held, Sane}
+use Rattle.art.specs.Deletes.{stay, held, Sane}
 use Rattle.art.proofs.Verdicts.{judge-is, free-apart}
 use Rattle.art.specs.Verdicts.{Verdict, known, clash, free, judge}
 use Rattle.art.specs.Facts.{height, row-height, forks, row-forks, branchings, kids-branchings, Call, insert, delete, put-room, insert-listing, step-listing, insert-tree, first-leaf, step, run-all, run-listing, drawn}
@@ -64,26 +64,26 @@ module _ {A : Type 0} where
   first-leaf-held s a none = (tt, refl)
   first-leaf-held s a (some pl) = (tt, refl)
 
-  insert-held : (hm : Home) (t : Tree A) → Good t → (s : Tag) (a : A) (f : A → A) (room : Option Plan) (v : Verdict) → judge s (contents t) ≡ v
-      → (Sane (insert-tree v hm t s a f room)) × (held (insert-tree v hm t s a f room) ≡ insert-listing v s a f room (contents t))
-  insert-held hm t g s a f room known e = (change-sane t g (λ x. some (f x)) hm s, change-held t g (λ x. some (f x)) hm s)
-  insert-held hm t g s a f room clash e = (g, refl)
-  insert-held hm t g s a f none free e = (g, refl)
-  insert-held hm t g s a f (some pl) free e = (grow-good t g pl s a, grow-contents t g pl s a (free-apart s (contents t) e))
+  insert-held : (t : Tree A) → Good t → (s : Tag) (a : A) (f : A → A) (room : Option Plan) (v : Verdict) → judge s (contents t) ≡ v
+      → (Sane (insert-tree v t s a f room)) × (held (insert-tree v t s a f room) ≡ insert-listing v s a f room (contents t))
+  insert-held t g s a f room known e = (change-sane t g (λ x. some (f x)) stay s, change-held t g (λ x. some (f x)) stay s)
+  insert-held t g s a f room clash e = (g, refl)
+  insert-held t g s a f none free e = (g, refl)
+  insert-held t g s a f (some pl) free e = (grow-good t g pl s a, grow-contents t g pl s a (free-apart s (contents t) e))
 
   -- a call makes of what a directory holds what it makes of the listing, and leaves the tree good
-  pub step-held : (hm : Home) (o : Option (Tree A)) (c : Call A) → Sane o → (Sane (step hm o c)) × (held (step hm o c) ≡ step-listing (held o) c)
-  step-held hm none (insert s a f room) g = first-leaf-held s a room
-  step-held hm none (delete s) g = (tt, refl)
-  step-held hm (some t) (insert s a f room) g = rw (judge-is t g s) (insert-held hm t g s a f room (judge s (contents t)) refl)
-  step-held hm (some t) (delete s) g = (change-sane t g (λ x. none) hm s, change-held t g (λ x. none) hm s)
+  pub step-held : (o : Option (Tree A)) (c : Call A) → Sane o → (Sane (step o c)) × (held (step o c) ≡ step-listing (held o) c)
+  step-held none (insert s a f room) g = first-leaf-held s a room
+  step-held none (delete s hm) g = (tt, refl)
+  step-held (some t) (insert s a f room) g = rw (judge-is t g s) (insert-held t g s a f room (judge s (contents t)) refl)
+  step-held (some t) (delete s hm) g = (change-sane t g (λ x. none) hm s, change-held t g (λ x. none) hm s)
 
   -- and so does any run of calls
-  pub run-held : (hm : Home) (o : Option (Tree A)) (cs : List (Call A)) → Sane o → (Sane (run-all hm o cs)) × (held (run-all hm o cs) ≡ run-listing (held o) cs)
-  run-held hm o [] g = (g, refl)
-  run-held hm o (c ∷ cs) g =
-      let s = step-held hm o c g in
-      let r = run-held hm (step hm o c) cs (s .0) in
+  pub run-held : (o : Option (Tree A)) (cs : List (Call A)) → Sane o → (Sane (run-all o cs)) × (held (run-all o cs) ≡ run-listing (held o) cs)
+  run-held o [] g = (g, refl)
+  run-held o (c ∷ cs) g =
+      let s = step-held o c g in
+      let r = run-held (step o c) cs (s .0) in
       (r .0, r .1 ∙ ap (λ (l : Listing A). run-listing l cs) (s .1))
 
   drawn-is-draw : (o : Option (Tree A)) → Sane o → drawn o ≡ draw (held o)
@@ -91,5 +91,5 @@ module _ {A : Type 0} where
   drawn-is-draw (some t) g = erase-is-draw t g
 
   -- any history from the empty directory draws what the accepted changes define
-  pub history : (hm : Home) (cs : List (Call A)) → drawn (run-all hm none cs) ≡ draw (run-listing [] cs)
-  history hm cs = let r = run-held hm none cs tt in drawn-is-draw (run-all hm none cs) (r .0) ∙ ap draw (r .1)
+  pub history : (cs : List (Call A)) → drawn (run-all none cs) ≡ draw (run-listing [] cs)
+  history cs = let r = run-held none cs tt in drawn-is-draw (run-all none cs) (r .0) ∙ ap draw (r .1)

@@ -5,7 +5,6 @@ use Prim.Native.Nat.{ℕ, _<_}
 use Rattle.art.specs.Tags.{Tag}
 use Rattle.art.specs.Trees.{Tree}
 use Rattle.art.specs.Changes.{Plan}
-use Rattle.art.specs.Deletes.{Home}
 use Rattle.art.specs.Facts.{Call, insert, delete, height}
 use Rattle.art.specs.Stores.{Place, leaf-place, Store, Edits, Once, Fresh, new-leaf}
 use Rattle.art.specs.Drops.{Roomy}
@@ -20,7 +19,7 @@ module _ {A : Type 0} where
   -- the tag that a call is given
   abbrev pub call-tag : Call A → Tag
   call-tag (insert s a g room) = s
-  call-tag (delete s) = s
+  call-tag (delete s hm) = s
 
   -- a new tag goes in where there is room for it
   abbrev pub room-edits : Store A → Tag → A → Option Plan → Point → Edits A
@@ -35,34 +34,34 @@ module _ {A : Type 0} where
   insert-edits σ s a g room (fork up y w d c) = room-edits σ s a room (fork up y w d c)
   insert-edits σ s a g room broken = []
 
-  abbrev pub point-edits : Store A → Home → Call A → Point → Edits A
-  point-edits σ hm (insert s a g room) pt = insert-edits σ s a g room pt
-  point-edits σ hm (delete s) pt = delete-at σ hm pt
+  abbrev pub point-edits : Store A → Call A → Point → Edits A
+  point-edits σ (insert s a g room) pt = insert-edits σ s a g room pt
+  point-edits σ (delete s hm) pt = delete-at σ hm pt
 
   -- with no root there is nothing but a first leaf to write
   abbrev pub first-edits : Call A → Edits A
   first-edits (insert s a g none) = []
   first-edits (insert s a g (some pl)) = new-leaf pl s a ∷ []
-  first-edits (delete s) = []
+  first-edits (delete s hm) = []
 
   -- the writes of a call on the store with this root
-  abbrev pub call-edits : ℕ → Store A → Home → Option Place → Call A → Edits A
-  call-edits f σ hm none c = first-edits c
-  call-edits f σ hm (some x) c = point-edits σ hm c (point f σ x (call-tag c))
+  abbrev pub call-edits : ℕ → Store A → Option Place → Call A → Edits A
+  call-edits f σ none c = first-edits c
+  call-edits f σ (some x) c = point-edits σ c (point f σ x (call-tag c))
 
-  abbrev pub point-root : Store A → Home → Call A → Point → Place → Option Place
-  point-root σ hm (insert s a g room) pt old = some (room-root room pt old)
-  point-root σ hm (delete s) pt old = delete-root σ hm pt old
+  abbrev pub point-root : Store A → Call A → Point → Place → Option Place
+  point-root σ (insert s a g room) pt old = some (room-root room pt old)
+  point-root σ (delete s hm) pt old = delete-root σ hm pt old
 
   abbrev pub first-root : Call A → Option Place
   first-root (insert s a g none) = none
   first-root (insert s a g (some pl)) = some (leaf-place (pl .leaf-number))
-  first-root (delete s) = none
+  first-root (delete s hm) = none
 
   -- the root afterwards
-  abbrev pub call-root : ℕ → Store A → Home → Option Place → Call A → Option Place
-  call-root f σ hm none c = first-root c
-  call-root f σ hm (some x) c = point-root σ hm c (point f σ x (call-tag c)) x
+  abbrev pub call-root : ℕ → Store A → Option Place → Call A → Option Place
+  call-root f σ none c = first-root c
+  call-root f σ (some x) c = point-root σ c (point f σ x (call-tag c)) x
 
   -- ── what is asked of a directory and of the places that a call may take ──
   -- the records that an insert may take are free
@@ -71,9 +70,9 @@ module _ {A : Type 0} where
   RoomFresh (some pl) σ = Fresh pl σ
 
   -- and so are those that a call may take
-  abbrev pub CallFresh : Home → Call A → Store A → Type 0
-  CallFresh hm (insert s a g room) σ = RoomFresh room σ
-  CallFresh hm (delete s) σ = Roomy hm σ
+  abbrev pub CallFresh : Call A → Store A → Type 0
+  CallFresh (insert s a g room) σ = RoomFresh room σ
+  CallFresh (delete s hm) σ = Roomy hm σ
 
   -- no place stands twice in it
   abbrev pub OnceOf : Option (Tree A) → Type 0

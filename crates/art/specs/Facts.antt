@@ -7,7 +7,7 @@ use Rattle.art.specs.Trees.{Tree, leaf, inner, Row, end, child}
 use Rattle.art.specs.Drawings.{Drawing, nothing, one, branch, Kids, done, kid, erase}
 use Rattle.art.specs.Puts.{put, alter}
 use Rattle.art.specs.Changes.{Plan, grow}
-use Rattle.art.specs.Deletes.{Home, change}
+use Rattle.art.specs.Deletes.{Home, stay, change}
 use Rattle.art.specs.Verdicts.{Verdict, known, clash, free, judge, judge-tree}
 
 module _ {A : Type 0} where
@@ -44,10 +44,10 @@ module _ {A : Type 0} where
     kids-branchings (kid b d ks) = branchings d + kids-branchings ks
 
 -- ── histories ──
--- a call: insert, with how a held value changes and the addresses of a new tag (none: no room), or delete
+-- a call: insert, with how a held value changes and the addresses of a new tag (none: no room); or delete, with where a record goes that loses a child
 pub data Call (A : Type 0) : Type 0 where
   insert : (s : Tag) (a : A) (over : A → A) (room : Option Plan) → Call A
-  delete : (s : Tag) → Call A
+  delete : (s : Tag) (home : Home) → Call A
 
 module _ {A : Type 0} where
   -- a tag put in where there is room
@@ -64,7 +64,7 @@ module _ {A : Type 0} where
   -- what a call makes of the listing
   abbrev pub step-listing : Listing A → Call A → Listing A
   step-listing l (insert s a f room) = insert-listing (judge s l) s a f room l
-  step-listing l (delete s) = alter (λ x. none) s l
+  step-listing l (delete s hm) = alter (λ x. none) s l
 
   -- a tree grown where there is room
   abbrev pub grow-room : Tree A → Tag → A → Option Plan → Option (Tree A)
@@ -72,10 +72,10 @@ module _ {A : Type 0} where
   grow-room t s a (some pl) = some (grow t pl s a)
 
   -- and so on a tree
-  abbrev pub insert-tree : Verdict → Home → Tree A → Tag → A → (A → A) → Option Plan → Option (Tree A)
-  insert-tree known hm t s a f room = change t (λ x. some (f x)) hm s
-  insert-tree clash hm t s a f room = some t
-  insert-tree free hm t s a f room = grow-room t s a room
+  abbrev pub insert-tree : Verdict → Tree A → Tag → A → (A → A) → Option Plan → Option (Tree A)
+  insert-tree known t s a f room = change t (λ x. some (f x)) stay s
+  insert-tree clash t s a f room = some t
+  insert-tree free t s a f room = grow-room t s a room
 
   -- and the first tag of an empty directory
   abbrev pub first-leaf : Tag → A → Option Plan → Option (Tree A)
@@ -83,16 +83,16 @@ module _ {A : Type 0} where
   first-leaf s a (some pl) = some (leaf (pl .leaf-number) s a)
 
   -- what a call makes of the tree
-  abbrev pub step : Home → Option (Tree A) → Call A → Option (Tree A)
-  step hm none (insert s a f room) = first-leaf s a room
-  step hm none (delete s) = none
-  step hm (some t) (insert s a f room) = insert-tree (judge-tree t s) hm t s a f room
-  step hm (some t) (delete s) = change t (λ x. none) hm s
+  abbrev pub step : Option (Tree A) → Call A → Option (Tree A)
+  step none (insert s a f room) = first-leaf s a room
+  step none (delete s hm) = none
+  step (some t) (insert s a f room) = insert-tree (judge-tree t s) t s a f room
+  step (some t) (delete s hm) = change t (λ x. none) hm s
 
   -- calls one after the other, on a tree
-  abbrev pub run-all : Home → Option (Tree A) → List (Call A) → Option (Tree A)
-  run-all hm o [] = o
-  run-all hm o (c ∷ cs) = run-all hm (step hm o c) cs
+  abbrev pub run-all : Option (Tree A) → List (Call A) → Option (Tree A)
+  run-all o [] = o
+  run-all o (c ∷ cs) = run-all (step o c) cs
 
   -- and on a listing
   abbrev pub run-listing : Listing A → List (Call A) → Listing A

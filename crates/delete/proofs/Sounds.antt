@@ -123,7 +123,7 @@ module _ (words keys tag : List ℕ) (cut : Cut) (n : ℕ) (gap : Gap) (t : Tree
   -- ── so it is sound ──
   gone-sound : (s′ : Sound (goneWords f cut n gap words) (keyOut f n keys)) × (s′ .tree ≡ without-tag)
   gone-sound =
-      state-sound without-tag gone (change-sane t (shown .good) (λ a. none) home tag) (call-once (some t) (shown .once) home (delete tag) (o .cut-fits .roomy)) (rooted-by without-tag new-root moved)
+      state-sound without-tag gone (change-sane t (shown .good) (λ a. none) home tag) (call-once (some t) (shown .once) (delete tag home) (o .cut-fits .roomy)) (rooted-by without-tag new-root moved)
       (subst (λ (m : ℕ). Linked (link-out links m) 0 (leaves-of without-tag)) (o .number-is)
       (cut-linked numberOf links t (shown .good) (shown .once) (numbered shown) home tag (o .held) (o .found) (shown .linked)))
       (omega (arith, s .count-is, cut-count t (shown .good) home tag (o .held) (o .found)))

@@ -154,8 +154,8 @@ module _ {f : Frame} {words keys : List ℕ} {t : Tree Held} (s : Shown f words 
 
     over-once : OnceOf d
     over-once =
-        subst (λ (v : Verdict). OnceOf (insert-tree v stay t tag (fits .held) (newTotal total) none)) is-known
-        (call-once (some t) (s .once) stay (insert tag (fits .held) (newTotal total) none) tt)
+        subst (λ (v : Verdict). OnceOf (insert-tree v t tag (fits .held) (newTotal total) none)) is-known
+        (call-once (some t) (s .once) (insert tag (fits .held) (newTotal total) none) tt)
 
     tree-over : (s′ : Sound (totalAt f (leaf / 8) total words) keys) × (held (s′ .tree) ≡ alter (λ h. some (newTotal total h)) tag (contents t)) × AlteredFrom (some t) tag total (s′ .tree)
     tree-over =

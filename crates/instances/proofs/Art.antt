@@ -213,17 +213,17 @@ unfolding opened
 cut-moves = delete-moves 3 τ parted-tags parted-good parted-shows (omega arith) stay AX
 
 -- the same of the call: its writes, its root, and that no place stands twice
-cut-calls : apply τ (call-edits 3 τ stay (some (inner-place 1 1)) (facts.delete AX)) ≡ σ
+cut-calls : apply τ (call-edits 3 τ (some (inner-place 1 1)) (facts.delete AX stay)) ≡ σ
 unfolding opened
-cut-calls = call-makes 3 (some parted-tags) parted-good parted-once (omega arith) stay (facts.delete AX) roomy
+cut-calls = call-makes 3 (some parted-tags) parted-good parted-once (omega arith) (facts.delete AX stay) roomy
 
-cut-roots : call-root 3 τ stay (some (inner-place 1 1)) (facts.delete AX) ≡ some (inner-place 1 0)
+cut-roots : call-root 3 τ (some (inner-place 1 1)) (facts.delete AX stay) ≡ some (inner-place 1 0)
 unfolding opened
-cut-roots = call-moves 3 (some parted-tags) parted-good parted-once (omega arith) stay (facts.delete AX)
+cut-roots = call-moves 3 (some parted-tags) parted-good parted-once (omega arith) (facts.delete AX stay)
 
 cut-once : Once long-tags []
 unfolding opened
-cut-once = call-once (some parted-tags) parted-once stay (facts.delete AX) roomy
+cut-once = call-once (some parted-tags) parted-once (facts.delete AX stay) roomy
 
 -- ── another total for J1: one write ──
 abbrev nine : Held → Held
@@ -260,11 +260,11 @@ cut-linked-out = cut-linked (λ h. h .number) parted-links parted-tags parted-go
 
 -- ── a history: J1 and J2 in, AX refused for want of room, J1 out ──
 abbrev calls : List (facts.Call Held)
-calls = facts.insert J1 (holding 0 1) nine (some plan) ∷ facts.insert J2 (holding 1 2) nine (some plan) ∷ facts.insert AX (holding 2 3) nine none ∷ facts.delete J1 ∷ []
+calls = facts.insert J1 (holding 0 1) nine (some plan) ∷ facts.insert J2 (holding 1 2) nine (some plan) ∷ facts.insert AX (holding 2 3) nine none ∷ facts.delete J1 stay ∷ []
 
-calls-draw : drawn (run-all stay none calls) ≡ one J2 (holding 1 2)
+calls-draw : drawn (run-all none calls) ≡ one J2 (holding 1 2)
 unfolding opened
-calls-draw = history stay calls
+calls-draw = history calls
 
 -- ── the check's way through the store: it ends well, and so the store is a tree's ──
 visited : visit (chain.follows parted-links) 3 τ [] (inner-place 1 1) at-start ≡ and-then (probe (by-number τ) (chain.follows parted-links) 3 τ 0 (inner-place 1 1) at-start) (λ h. some (h .1))
