@@ -11,7 +11,7 @@ use Rattle.art.proofs.Listings.{every-imp, every-of-under, every-left, 
 use Rattle.art.specs.Listings.{Every, under, strip}
 use Rattle.art.proofs.Trees.{row-above}
 use Rattle.art.specs.Trees.{Tree, leaf, inner, Row, end, child, contents, row-contents, Good, GoodRow, Many, HeadAbove}
-use Rattle.art.specs.Drawings.{branch, kid, common, Groups, shared-with, shared, add, add-entry, groups, kids-of, draw-at, longest, draw, erase, erase-row, Filled, Two, Some}
+use Rattle.art.specs.Drawings.{branch, kid, common, Groups, shared-with, shared-run, add, add-entry, groups, kids-of, draw-at, longest, draw, erase, erase-row, Filled, Two, Some}
 
 -- two tags below a path share the path and what they share from there on
 pub common-under : (p s t : Tag) → common (p ++ s) (p ++ t) ≡ p ++ common s t
@@ -61,7 +61,7 @@ module _ {A : Type 0} where
   shared-with-under p s [] = refl
   shared-with-under p s (e ∷ l) = ap (λ (x : Tag). shared-with x (under p l)) (common-under p s (e .0)) ∙ shared-with-under p (common s (e .0)) l
 
-  shared-under : (p : Tag) (l : Listing A) → Filled l → shared (under p l) ≡ p ++ shared l
+  shared-under : (p : Tag) (l : Listing A) → Filled l → shared-run (under p l) ≡ p ++ shared-run l
   shared-under p (e ∷ l) h = shared-with-under p (e .0) l
 
   shared-apart : (b : ℕ) (s : Tag) (l m : Listing A) → Filled m → Every (HeadAbove b) m → shared-with (b ∷ s) (under (b ∷ []) l ++ m) ≡ []
@@ -71,10 +71,10 @@ module _ {A : Type 0} where
       go (c ∷ x) k = ap (λ (x : Tag). shared-with x m) (common-apart b c s x (omega arith)) ∙ shared-with-nil m
   shared-apart b s (e ∷ l) m f h = ap (λ (x : Tag). shared-with x (under (b ∷ []) l ++ m)) (common-under (b ∷ []) s (e .0)) ∙ shared-apart b (common s (e .0)) l m f h
 
-  shared-child : (b : ℕ) (l m : Listing A) → Filled l → Filled m → Every (HeadAbove b) m → shared (under (b ∷ []) l ++ m) ≡ []
+  shared-child : (b : ℕ) (l m : Listing A) → Filled l → Filled m → Every (HeadAbove b) m → shared-run (under (b ∷ []) l ++ m) ≡ []
   shared-child b (e ∷ l) m f k h = shared-apart b (e .0) l m k h
 
-  shared-row : (r : Row A) → Many r → GoodRow r → shared (row-contents r) ≡ []
+  shared-row : (r : Row A) → Many r → GoodRow r → shared-run (row-contents r) ≡ []
   shared-row end h g = absurd (omega arith)
   shared-row (child b t end) h g = absurd (omega arith)
   shared-row (child b t (child c u r)) h g = shared-child b (contents t) (row-contents (child c u r)) (filled t (g .0)) (some-filled (child c u r) (g .2) tt) (row-above b (child c u r) (g .1))
@@ -114,14 +114,14 @@ module _ {A : Type 0} where
 
   -- ── theorem D ──
   draw-two : (f : ℕ) (p : Tag) (l : Listing A) → Two l → draw-at (suc f) p l
-      ≡ branch (length (shared l)) (take 8 (shared l)) (kids-of (λ b g. draw-at f (p ++ shared l ++ b ∷ []) g) (groups (strip (length (shared l)) l)))
+      ≡ branch (length (shared-run l)) (take 8 (shared-run l)) (kids-of (λ b g. draw-at f (p ++ shared-run l ++ b ∷ []) g) (groups (strip (length (shared-run l)) l)))
   draw-two f p (e ∷ e′ ∷ l) h = refl
 
   draw-inner : (f : ℕ) (p run : Tag) (r : Row A) → Many r → GoodRow r → draw-at (suc f) p (under run (row-contents r))
       ≡ branch (length run) (take 8 run) (kids-of (λ b g. draw-at f (p ++ run ++ b ∷ []) g) (groups (row-contents r)))
   draw-inner f p run r h g =
       let l : Listing A = under run (row-contents r) in
-      let e : shared l ≡ run = shared-under run (row-contents r) (some-filled r g (many-some r h)) ∙ rw (shared-row r h g) (append-nil run) in
+      let e : shared-run l ≡ run = shared-under run (row-contents r) (some-filled r g (many-some r h)) ∙ rw (shared-row r h g) (append-nil run) in
       draw-two f p l (two-under run (row-contents r) (two-row r h g)) ∙ rw (e, strip-under run (row-contents r))
 
   none-short : (l : Listing A) → Filled l → Every (λ s. length s < 0) l → ⊥

@@ -16,23 +16,23 @@ use Rattle.art.specs.Changes.{Meet, same, short, long, part, meet, Has, 
 use Rattle.art.specs.Stores.{Place, cell-tag, leaf-place, inner-place, Cell, leaf-cell, inner-cell, Store, root, refs}
 use Rattle.art.specs.Walks.{Shows, ShowsRow}
 use Rattle.art.specs.Refs.{find-ref}
-use Rattle.art.specs.Points.{agreed, Up, via, Point, holds, clashes, into, fork, cell-refs, tag-at, lowest-refs, lowest-leaf, stop-leaf, step-kid, step-inner, seek-leaf, seek-inner, seek}
+use Rattle.art.specs.Points.{shared-length, Up, via, Point, holds, clashes, into, fork, cell-refs, tag-at, lowest-refs, lowest-leaf, stop-leaf, step-kid, step-inner, seek-leaf, seek-inner, seek}
 use Rattle.art.proofs.Drawings.{many-some}
 use Rattle.art.proofs.Refs.{at-kid, find-kid, find-no-kid}
 
 -- ── how many bytes agree ──
-agreed-short : (s z : Tag) → agreed s (s ++ z) ≡ length s
-agreed-short [] z = refl
-agreed-short (x ∷ s) z = if-pos (ℕ-discrete x x) refl _ _ ∙ ap suc (agreed-short s z)
+shared-short : (s z : Tag) → shared-length s (s ++ z) ≡ length s
+shared-short [] z = refl
+shared-short (x ∷ s) z = if-pos (ℕ-discrete x x) refl _ _ ∙ ap suc (shared-short s z)
 
-agreed-long : (t z : Tag) → agreed (t ++ z) t ≡ length t
-agreed-long [] [] = refl
-agreed-long [] (x ∷ z) = refl
-agreed-long (x ∷ t) z = if-pos (ℕ-discrete x x) refl _ _ ∙ ap suc (agreed-long t z)
+shared-long : (t z : Tag) → shared-length (t ++ z) t ≡ length t
+shared-long [] [] = refl
+shared-long [] (x ∷ z) = refl
+shared-long (x ∷ t) z = if-pos (ℕ-discrete x x) refl _ _ ∙ ap suc (shared-long t z)
 
-agreed-part : (c : Tag) (x : ℕ) (u : Tag) (y : ℕ) (v : Tag) → x ≢ y → agreed (c ++ x ∷ u) (c ++ y ∷ v) ≡ length c
-agreed-part [] x u y v ne = if-neg (ℕ-discrete x y) ne _ _
-agreed-part (z ∷ c) x u y v ne = if-pos (ℕ-discrete z z) refl _ _ ∙ ap suc (agreed-part c x u y v ne)
+shared-part : (c : Tag) (x : ℕ) (u : Tag) (y : ℕ) (v : Tag) → x ≢ y → shared-length (c ++ x ∷ u) (c ++ y ∷ v) ≡ length c
+shared-part [] x u y v ne = if-neg (ℕ-discrete x y) ne _ _
+shared-part (z ∷ c) x u y v ne = if-pos (ℕ-discrete z z) refl _ _ ∙ ap suc (shared-part c x u y v ne)
 
 -- the byte after the path and the run
 pub next-byte : (p run : Tag) (x : ℕ) (w s : Tag) → s ≡ p ++ (run ++ x ∷ w) → getD s (length p + length run) 0 ≡ x
@@ -118,14 +118,14 @@ module _ {A : Type 0} where
 
   -- ── at a leaf ──
   leaf-reach : (σ : Store A) (n : ℕ) (rest : Tag) (v : A) (p u s : Tag) (upper up : Up) → s ≡ p ++ u → σ (leaf-place n) ≡ leaf-cell (p ++ rest) v → (m : Meet u rest) → meet u rest ≡ m
-      → Reach σ (leaf n rest v) p u upper up (stop-leaf s (p ++ rest) n (length p) (agreed u rest) upper up)
+      → Reach σ (leaf n rest v) p u upper up (stop-leaf s (p ++ rest) n (length p) (shared-length u rest) upper up)
   leaf-reach σ n rest v p u s upper up es h m em = go m em
     where
       Ends : Point → Type 1
       Ends pt = Reach σ (leaf n rest v) p u upper up pt
 
       c : ℕ
-      c = agreed u rest
+      c = shared-length u rest
 
       ls : length s ≡ length p + length u
       ls = ap length es ∙ length-append p u
@@ -135,19 +135,19 @@ module _ {A : Type 0} where
 
       go : (m : Meet u rest) → meet u rest ≡ m → Ends (stop-leaf s (p ++ rest) n (length p) c upper up)
       go (same e) em =
-          let a : c ≡ length u = ap (agreed u) (sym e ∙ sym (append-nil u)) ∙ agreed-short u [] in
+          let a : c ≡ length u = ap (shared-length u) (sym e ∙ sym (append-nil u)) ∙ shared-short u [] in
           let b : length u ≡ length rest = ap length e in
           subst Ends (sym (if-pos (decLe (length s) (length p + c)) (omega (arith, ls, lt)) _ _ ∙ if-pos (decLe (length (p ++ rest)) (length p + c)) (omega (arith, ls, lt)) _ _)) (held-leaf e em h)
       go (short y w e) em =
-          let a : c ≡ length u = ap (agreed u) e ∙ agreed-short u (y ∷ w) in
+          let a : c ≡ length u = ap (shared-length u) e ∙ shared-short u (y ∷ w) in
           let b : length rest ≡ length u + suc (length w) = ap length e ∙ length-append u (y ∷ w) in
           subst Ends (sym (if-pos (decLe (length s) (length p + c)) (omega (arith, ls, lt)) _ _ ∙ if-neg (decLe (length (p ++ rest)) (length p + c)) (omega (arith, ls, lt)) _ _)) (short-leaf y w e em)
       go (long x w e) em =
-          let a : c ≡ length rest = ap (λ (z : Tag). agreed z rest) e ∙ agreed-long rest (x ∷ w) in
+          let a : c ≡ length rest = ap (λ (z : Tag). shared-length z rest) e ∙ shared-long rest (x ∷ w) in
           let b : length u ≡ length rest + suc (length w) = ap length e ∙ length-append rest (x ∷ w) in
           subst Ends (sym (if-neg (decLe (length s) (length p + c)) (omega (arith, ls, lt)) _ _ ∙ if-pos (decLe (length (p ++ rest)) (length p + c)) (omega (arith, ls, lt)) _ _)) (long-leaf x w e em)
       go (part k x i y j e e′ ne) em =
-          let a : c ≡ length k = ap₂ agreed e e′ ∙ agreed-part k x i y j ne in
+          let a : c ≡ length k = ap₂ shared-length e e′ ∙ shared-part k x i y j ne in
           let b : length u ≡ length k + suc (length i) = ap length e ∙ length-append k (x ∷ i) in
           let b′ : length rest ≡ length k + suc (length j) = ap length e′ ∙ length-append k (y ∷ j) in
           subst Ends
@@ -158,14 +158,14 @@ module _ {A : Type 0} where
   inner-reach : (σ : Store A) (k n : ℕ) (run : Tag) (r : Row A) → GoodRow r → (p u s : Tag) (upper up : Up) → s ≡ p ++ u → σ (inner-place k n) ≡ inner-cell (length run) (take 8 run) (refs r) → ShowsRow r (p ++ run) σ
       → (w : ℕ) (z : Tag) → tag-at σ w ≡ p ++ (run ++ z) → (go : Place → ℕ → Up → Point)
       → ((x : ℕ) (v : Tag) (kid : Kid σ x r (p ++ run)) → s ≡ p ++ run ++ x ∷ [] ++ v → Reach σ (kid .tree) (p ++ run ++ x ∷ []) v up (via k n x) (go (root (kid .tree)) (length (p ++ run ++ x ∷ [])) (via k n x)))
-      → (m : Meet u run) → meet u run ≡ m → Reach σ (inner k n run r) p u upper up (step-inner s k n (length run) (refs r) w (length p) (agreed u run) up go)
+      → (m : Meet u run) → meet u run ≡ m → Reach σ (inner k n run r) p u upper up (step-inner s k n (length run) (refs r) w (length p) (shared-length u run) up go)
   inner-reach σ k n run r g p u s upper up es h hr w z ew down ih m em = go m em
     where
       Ends : Point → Type 1
       Ends pt = Reach σ (inner k n run r) p u upper up pt
 
       c : ℕ
-      c = agreed u run
+      c = shared-length u run
 
       d : ℕ
       d = length p
@@ -191,19 +191,19 @@ module _ {A : Type 0} where
 
       go : (m : Meet u run) → meet u run ≡ m → Ends (step-inner s k n (length run) (refs r) w d c up down)
       go (same e) em =
-          let a : c ≡ length u = ap (agreed u) (sym e ∙ sym (append-nil u)) ∙ agreed-short u [] in
+          let a : c ≡ length u = ap (shared-length u) (sym e ∙ sym (append-nil u)) ∙ shared-short u [] in
           subst Ends (sym (if-pos (decLe (length s) (d + c)) (omega (arith, ls)) _ _)) (same-run e em)
       go (short y v e) em =
-          let a : c ≡ length u = ap (agreed u) e ∙ agreed-short u (y ∷ v) in
+          let a : c ≡ length u = ap (shared-length u) e ∙ shared-short u (y ∷ v) in
           subst Ends (sym (if-pos (decLe (length s) (d + c)) (omega (arith, ls)) _ _)) (short-run y v e em)
       go (long x v e) em =
-          let a : c ≡ length run = ap (λ (t : Tag). agreed t run) e ∙ agreed-long run (x ∷ v) in
+          let a : c ≡ length run = ap (λ (t : Tag). shared-length t run) e ∙ shared-long run (x ∷ v) in
           let b : length u ≡ length run + suc (length v) = ap length e ∙ length-append run (x ∷ v) in
           subst Ends
           (sym (if-neg (decLe (length s) (d + c)) (omega (arith, ls)) _ _ ∙ if-pos (decLe (length run) c) (omega arith) _ _ ∙ ap kids (byte x v e)))
           (longer x v e em (has x r) refl)
       go (part q x i y j e e′ ne) em =
-          let a : c ≡ length q = ap₂ agreed e e′ ∙ agreed-part q x i y j ne in
+          let a : c ≡ length q = ap₂ shared-length e e′ ∙ shared-part q x i y j ne in
           let b : length u ≡ length q + suc (length i) = ap length e ∙ length-append q (x ∷ i) in
           let b′ : length run ≡ length q + suc (length j) = ap length e′ ∙ length-append q (y ∷ j) in
           subst Ends
@@ -219,7 +219,7 @@ module _ {A : Type 0} where
       let a : drop (length p) s ≡ u = ap (drop (length p)) es ∙ drop-append-seam p u in
       let b : drop (length p) (p ++ rest) ≡ rest = drop-append-seam p rest in
       subst at
-      (sym (ap (seek-leaf s n (length p) upper up) h ∙ ap₂ (λ (i j : Tag). stop-leaf s (p ++ rest) n (length p) (agreed i j) upper up) a b))
+      (sym (ap (seek-leaf s n (length p) upper up) h ∙ ap₂ (λ (i j : Tag). stop-leaf s (p ++ rest) n (length p) (shared-length i j) upper up) a b))
       (leaf-reach σ n rest v p u s upper up es h (meet u rest) refl)
   seek-reaches m (suc f) σ (inner k n run r) g p u s es h lm l upper up =
       let at : Point → Type 1 = λ pt. Reach σ (inner k n run r) p u upper up pt in
@@ -228,6 +228,6 @@ module _ {A : Type 0} where
       let a : drop (length p) s ≡ u = ap (drop (length p)) es ∙ drop-append-seam p u in
       let b : take (length run) (drop (length p) (tag-at σ (w .0))) ≡ run = ap (λ (z : Tag). take (length run) (drop (length p) z)) (w .3) ∙ ap (take (length run)) (drop-append-seam p (run ++ w .1)) ∙ take-append-seam run (w .1) in
       subst at
-      (sym (ap₂ (λ (c : Cell A) (x : Option ℕ). seek-inner σ s k n (length p) up c x go) (h .0) (w .2) ∙ ap₂ (λ (i j : Tag). step-inner s k n (length run) (refs r) (w .0) (length p) (agreed i j) up go) a b))
+      (sym (ap₂ (λ (c : Cell A) (x : Option ℕ). seek-inner σ s k n (length p) up c x go) (h .0) (w .2) ∙ ap₂ (λ (i j : Tag). step-inner s k n (length run) (refs r) (w .0) (length p) (shared-length i j) up go) a b))
       (inner-reach σ k n run r (g .1) p u s upper up es (h .0) (h .1) (w .0) (w .1) (w .3) go
       (λ x v kid e. seek-reaches m f σ (kid .tree) (kid .good) (p ++ run ++ x ∷ []) v s e (kid .shows) (omega (arith, kid .low)) (omega (arith, kid .low)) up (via k n x)) (meet u run) refl)

@@ -12,7 +12,7 @@ use Rattle.art.specs.Trees.{Tree, leaf, inner, Row, end, child}
 use Rattle.art.specs.Puts.{put, leave}
 use Rattle.art.specs.Orders.{first-of, after}
 
--- the reference to leaf n; 0 refers to nothing
+-- the reference to leaf n, the number that `refOf` of frames gives to its place; 0 refers to nothing
 abbrev pub leaf-ref : ℕ → ℕ
 leaf-ref n = n * 8 + 5
 

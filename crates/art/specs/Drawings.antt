@@ -36,9 +36,9 @@ module _ {A : Type 0} where
   shared-with s (e ∷ l) = shared-with (common s (e .0)) l
 
   -- the longest run that all of a listing share
-  abbrev pub shared : Listing A → Tag
-  shared [] = []
-  shared (e ∷ l) = shared-with (e .0) l
+  abbrev pub shared-run : Listing A → Tag
+  shared-run [] = []
+  shared-run (e ∷ l) = shared-with (e .0) l
 
   -- an entry more, in the first group where that has its byte
   abbrev pub add : ℕ → Tag × A → Groups A → Groups A
@@ -66,7 +66,7 @@ module _ {A : Type 0} where
   draw-at (suc f) p [] = nothing
   draw-at (suc f) p (e ∷ []) = one (p ++ e .0) (e .1)
   draw-at (suc f) p (e ∷ e′ ∷ l) =
-      let run : Tag = shared (e ∷ e′ ∷ l) in
+      let run : Tag = shared-run (e ∷ e′ ∷ l) in
       branch (length run) (take 8 run) (kids-of (λ b g. draw-at f (p ++ run ++ b ∷ []) g) (groups (strip (length run) (e ∷ e′ ∷ l))))
 
   -- the length of the longest tag

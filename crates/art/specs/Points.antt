@@ -15,11 +15,11 @@ use Rattle.art.specs.Stores.{Place, cell-tag, leaf-place, inner-place, h
 use Rattle.art.specs.Drops.{new-home}
 use Rattle.art.specs.Refs.{Refs, find-ref, add-ref, pair-ref, cut-ref, relink}
 
--- how many bytes two tags share from the front
-abbrev pub agreed : Tag → Tag → ℕ
-agreed [] t = 0
-agreed (x ∷ s) [] = 0
-agreed (x ∷ s) (y ∷ t) = ite (ℕ-discrete x y) (suc (agreed s t)) 0
+-- how many bytes two tags share from the front, which the code counts by `shared` of lists
+abbrev pub shared-length : Tag → Tag → ℕ
+shared-length [] t = 0
+shared-length (x ∷ s) [] = 0
+shared-length (x ∷ s) (y ∷ t) = ite (ℕ-discrete x y) (suc (shared-length s t)) 0
 
 -- the record above, with the byte that leads down from it, or none at the root
 pub data Up : Type 0 where
@@ -82,13 +82,13 @@ step-inner s k n len rs w d c up go =
 module _ {A : Type 0} where
   abbrev pub seek-leaf : (s : Tag) (n d : ℕ) (upper up : Up) → Cell A → Point
   seek-leaf s n d upper up unused = broken
-  seek-leaf s n d upper up (leaf-cell t a) = stop-leaf s t n d (agreed (drop d s) (drop d t)) upper up
+  seek-leaf s n d upper up (leaf-cell t a) = stop-leaf s t n d (shared-length (drop d s) (drop d t)) upper up
   seek-leaf s n d upper up (inner-cell len st rs) = broken
 
   -- the run is read from the first leaf below
   abbrev pub seek-run : Store A → (s : Tag) (k n len : ℕ) (rs : Refs) (d : ℕ) (up : Up) → Option ℕ → (Place → ℕ → Up → Point) → Point
   seek-run σ s k n len rs d up none go = broken
-  seek-run σ s k n len rs d up (some w) go = step-inner s k n len rs w d (agreed (drop d s) (take len (drop d (tag-at σ w)))) up go
+  seek-run σ s k n len rs d up (some w) go = step-inner s k n len rs w d (shared-length (drop d s) (take len (drop d (tag-at σ w)))) up go
 
   abbrev pub seek-inner : Store A → (s : Tag) (k n d : ℕ) (up : Up) → Cell A → Option ℕ → (Place → ℕ → Up → Point) → Point
   seek-inner σ s k n d up unused o go = broken

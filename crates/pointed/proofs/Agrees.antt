@@ -11,21 +11,21 @@ use lib.Dec.{eqb, leb}
 use Rattle.lists.specs.Scan.{choose}
 use Rattle.lists.specs.Compare.{shared}
 use Rattle.lists.proofs.Compares.{shared-swap}
-use Rattle.art.specs.Points.{agreed}
+use Rattle.art.specs.Points.{shared-length}
 
--- the bytes that two lists share are those that agree
-pub shared-agreed : (s t : List ℕ) → shared s t ≡ agreed s t
-shared-agreed [] t = refl
-shared-agreed (x ∷ s) [] = refl
-shared-agreed (x ∷ s) (y ∷ t) = go (ℕ-discrete x y) (shared-agreed s t)
+-- the bytes that two lists share are as many in the code as in the mathematics
+pub shared-is-length : (s t : List ℕ) → shared s t ≡ shared-length s t
+shared-is-length [] t = refl
+shared-is-length (x ∷ s) [] = refl
+shared-is-length (x ∷ s) (y ∷ t) = go (ℕ-discrete x y) (shared-is-length s t)
   where
-    go : (d : Dec (x ≡ y)) → shared s t ≡ agreed s t → choose (eqb x y) (suc (shared s t)) 0 ≡ ite d (suc (agreed s t)) 0
+    go : (d : Dec (x ≡ y)) → shared s t ≡ shared-length s t → choose (eqb x y) (suc (shared s t)) 0 ≡ ite d (suc (shared-length s t)) 0
     go (yes e) ih = ap (λ (b : Bool). choose b (suc (shared s t)) 0) (eq-eqb x y e) ∙ ap suc ih
     go (no n) ih = ap (λ (b : Bool). choose b (suc (shared s t)) 0) (ne-eqb x y n)
 
 -- in either order
-pub shared-agreed-swap : (s t : List ℕ) → shared s t ≡ agreed t s
-shared-agreed-swap s t = shared-swap s t ∙ shared-agreed t s
+pub shared-is-length-swap : (s t : List ℕ) → shared s t ≡ shared-length t s
+shared-is-length-swap s t = shared-swap s t ∙ shared-is-length t s
 
 -- what is made of a choice by the test is a choice by the fact
 pub choose-le : {X Y : Type 0} (g : X → Y) (a b : ℕ) (x y : X) → g (choose (leb a b) x y) ≡ ite (decLe a b) (g x) (g y)

@@ -64,7 +64,7 @@ module _ {f : Frame} {words keys : List ℕ} (w : FrameOf f words keys) (rules :
   at-leaf left n t a h i ref e d upper up =
       ap told (point-end f words keys tag left ref d upper up _ (step-by f words keys tag left ref d upper up _ (arrival.at-leaf f words keys rules left ref n t a h e)))
       ∙ leaf-told tag (tagAt f words keys ref) ref n d upper up e
-      ∙ ap (λ (x : Tag). art.stop-leaf tag x n d (art.agreed (drop d tag) (drop d x)) (upTold upper) (upTold up)) (tag-seen f words keys ref n t a h (leaf-ref ref n e))
+      ∙ ap (λ (x : Tag). art.stop-leaf tag x n d (art.shared-length (drop d tag) (drop d x)) (upTold upper) (upTold up)) (tag-seen f words keys ref n t a h (leaf-ref ref n e))
       ∙ sym (ap (art.seek-leaf tag n d (upTold upper) (upTold up)) h)
 
   -- below an inner record both go on in the same child, or end

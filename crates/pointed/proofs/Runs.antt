@@ -20,7 +20,7 @@ use Rattle.points.specs.declared.insert_point.Run.the-variants.{Agrees}
 use Rattle.art.specs.Tags.{Tag}
 use Rattle.art.specs.Stores.{Place}
 use Rattle.art.specs.Points as art
-use Rattle.pointed.proofs.Agrees.{shared-agreed-swap}
+use Rattle.pointed.proofs.Agrees.{shared-is-length-swap}
 use Rattle.pointed.proofs.Lowest.{LowestOf}
 
 module _ (f : Frame) (words keys : List ℕ) (p run : Tag) (ref m : ℕ) (x : Place) (low : LowestOf f words keys ref m x (p ++ run)) (d : ℕ) (deep : d ≡ length p) where
@@ -34,7 +34,7 @@ module _ (f : Frame) (words keys : List ℕ) (p run : Tag) (ref m : ℕ) (x : Pl
 
   -- a short run is read from the record, a longer one from that leaf
   pub run-agrees : (tag : List ℕ) (pre : Prefix) → length run ≡ pre .full .0 → take 8 run ≡ held pre
-      → runOf f words keys tag ref d pre ≡ Agrees (art.agreed (drop d tag) (take (length run) (drop d (art.tag-at (cellOf f words keys) (low .number)))))
+      → runOf f words keys tag ref d pre ≡ Agrees (art.shared-length (drop d tag) (take (length run) (drop d (art.tag-at (cellOf f words keys) (low .number)))))
   unfolding runOf
   run-agrees tag pre full stored = go (decLe (pre .full .0) 8)
     where
@@ -43,13 +43,13 @@ module _ (f : Frame) (words keys : List ℕ) (p run : Tag) (ref m : ℕ) (x : Pl
 
       go : Dec (pre .full .0 ≤ 8)
           → choose (leb (pre .full .0) 8) (Agrees (shared (held pre) (drop d tag))) (runBelow f words keys tag d (pre .full .0) (lowestOf f words keys ref))
-          ≡ Agrees (art.agreed (drop d tag) (take (length run) (drop d there)))
+          ≡ Agrees (art.shared-length (drop d tag) (take (length run) (drop d there)))
       go (yes h) =
           ap (λ (b : Bool). choose b (Agrees (shared (held pre) (drop d tag))) (runBelow f words keys tag d (pre .full .0) (lowestOf f words keys ref))) (le-leb (pre .full .0) 8 h)
           ∙ ap (λ (s : Tag). Agrees (shared s (drop d tag))) (sym stored ∙ take-all 8 run (omega arith) ∙ sym run-below)
-          ∙ ap Agrees (shared-agreed-swap (take (length run) (drop d there)) (drop d tag))
+          ∙ ap Agrees (shared-is-length-swap (take (length run) (drop d there)) (drop d tag))
       go (no h) =
           ap (λ (b : Bool). choose b (Agrees (shared (held pre) (drop d tag))) (runBelow f words keys tag d (pre .full .0) (lowestOf f words keys ref))) (lt-leb (pre .full .0) 8 (omega arith))
           ∙ ap (runBelow f words keys tag d (pre .full .0)) (low .found)
           ∙ ap₂ (λ (l : ℕ) (t : Tag). Agrees (shared (take l (drop d t)) (drop d tag))) (sym full) (low .read)
-          ∙ ap Agrees (shared-agreed-swap (take (length run) (drop d there)) (drop d tag))
+          ∙ ap Agrees (shared-is-length-swap (take (length run) (drop d there)) (drop d tag))

@@ -31,7 +31,7 @@ use Rattle.art.specs.Stores.{Place, leaf-place, inner-place}
 use Rattle.art.specs.Refs.{Refs, find-ref}
 use Rattle.art.specs.Points as art
 use Rattle.pointed.specs.Told.{upTold, told}
-use Rattle.pointed.proofs.Agrees.{shared-agreed, choose-le}
+use Rattle.pointed.proofs.Agrees.{shared-is-length, choose-le}
 
 -- ── references ──
 -- the number of the leaf, and the kind and the number of the inner record, that a reference names
@@ -51,10 +51,10 @@ inner-ref ref k n = go (eqb (ref % 8) 5)
 
 -- ── at a leaf ──
 pub leaf-told : (tag t : List ℕ) (ref n d : ℕ) (upper up : Up) → placeAt ref ≡ leaf-place n
-    → told (leafPoint tag t ref d upper up) ≡ art.stop-leaf tag t n d (art.agreed (drop d tag) (drop d t)) (upTold upper) (upTold up)
+    → told (leafPoint tag t ref d upper up) ≡ art.stop-leaf tag t n d (art.shared-length (drop d tag) (drop d t)) (upTold upper) (upTold up)
 unfolding leafPoint
 leaf-told tag t ref n d upper up e =
-    at (shared (drop d tag) (drop d t)) ∙ ap (λ (c : ℕ). art.stop-leaf tag t n d c (upTold upper) (upTold up)) (shared-agreed (drop d tag) (drop d t))
+    at (shared (drop d tag) (drop d t)) ∙ ap (λ (c : ℕ). art.stop-leaf tag t n d c (upTold upper) (upTold up)) (shared-is-length (drop d tag) (drop d t))
   where
     at : (c : ℕ) → told (choose (leb (length tag) (d + c)) (choose (leb (length t) (d + c)) (Holds upper up ref) Clash) (choose (leb (length t) (d + c)) Clash (Fork up ref ref d c))) ≡ art.stop-leaf tag t n d c (upTold upper) (upTold up)
     at c =

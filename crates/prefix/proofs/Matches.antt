@@ -14,7 +14,7 @@ use Rattle.lists.specs.Part.{between}
 use Rattle.lists.proofs.Tests.{both, and-both}
 use Rattle.lists.proofs.Compares.{shared-le, shared-front, shared-more}
 use Rattle.prefix.specs.Run.{capped, held, prefixOf}
-use Rattle.prefix.specs.Match.{roomFor, agreed, afterwards, lengthMatch, matchOf}
+use Rattle.prefix.specs.Match.{roomFor, storedShared, afterwards, lengthMatch, matchOf}
 use Rattle.prefix.specs.declared.Prefix.{Prefix}
 use Rattle.prefix.specs.declared.lookup.PrefixMatchBehavior.{PrefixMatchBehavior}
 use Rattle.prefix.specs.declared.lookup.PrefixMatchBehavior.the-variants.{Pessimistic, Optimistic}
@@ -49,15 +49,15 @@ off-false false d a i e = cc
 module _ (p : Prefix) (tag : List ℕ) (depth : ℕ) where
   -- the tag has the stored bytes
   abbrev agrees : Bool
-  agrees = leb (capped (p .full .0)) (agreed p tag depth)
+  agrees = leb (capped (p .full .0)) (storedShared p tag depth)
 
   -- and is long enough
   abbrev room : Bool
   room = roomFor (p .full .0) (length tag) depth
 
-  match-by : {t : Bool} → agrees && room ≡ t → choose t (On (depth + p .full .0) (afterwards (p .full .0))) (Off (agreed p tag depth)) ≡ matchOf p tag depth Pessimistic
+  match-by : {t : Bool} → agrees && room ≡ t → choose t (On (depth + p .full .0) (afterwards (p .full .0))) (Off (storedShared p tag depth)) ≡ matchOf p tag depth Pessimistic
   unfolding matchOf
-  match-by e = ap (λ (t : Bool). choose t (On (depth + p .full .0) (afterwards (p .full .0))) (Off (agreed p tag depth))) (sym e)
+  match-by e = ap (λ (t : Bool). choose t (On (depth + p .full .0) (afterwards (p .full .0))) (Off (storedShared p tag depth))) (sym e)
 
   module _ {behavior : PrefixMatchBehavior} where
     pub match-lengths : behavior ≡ Optimistic → lengthMatch (p .full .0) (length tag) depth ≡ matchOf p tag depth behavior
@@ -67,7 +67,7 @@ module _ (p : Prefix) (tag : List ℕ) (depth : ℕ) where
     -- j of the stored bytes, up to k, agreed with the tag's
     module _ {k j : ℕ} (e : behavior ≡ Pessimistic) (found : j ≡ shared (between (p .stored) 0 k) (between tag depth (length tag)))
         (cap : k ≡ capped (p .full .0)) where
-      counted : j ≡ agreed p tag depth
+      counted : j ≡ storedShared p tag depth
       counted =
           let q : k - 0 ≡ capped (p .full .0) = omega arith in
           found
@@ -76,7 +76,7 @@ module _ (p : Prefix) (tag : List ℕ) (depth : ℕ) where
 
       pub match-differs : j < k → Off j ≡ matchOf p tag depth behavior
       match-differs h =
-          let off : agrees ≡ false = lt-leb (capped (p .full .0)) (agreed p tag depth) (omega (arith, counted)) in
+          let off : agrees ≡ false = lt-leb (capped (p .full .0)) (storedShared p tag depth) (omega (arith, counted)) in
           ap Off counted ∙ match-by (ap (λ (b : Bool). b && room) off) ∙ ap (matchOf p tag depth) (sym e)
 
       pub match-short : length tag - depth ≤ p .full .0 → Off j ≡ matchOf p tag depth behavior
@@ -87,7 +87,7 @@ module _ (p : Prefix) (tag : List ℕ) (depth : ℕ) where
       pub match-on : {after : PrefixMatchBehavior} → k ≤ j → p .full .0 < length tag - depth → after ≡ afterwards (p .full .0)
           → On (depth + p .full .0) after ≡ matchOf p tag depth behavior
       match-on h r a =
-          let on : agrees ≡ true = le-leb (capped (p .full .0)) (agreed p tag depth) (omega (arith, counted)) in
+          let on : agrees ≡ true = le-leb (capped (p .full .0)) (storedShared p tag depth) (omega (arith, counted)) in
           ap (On (depth + p .full .0)) a ∙ match-by (and-both on (lt-ltb (depth + p .full .0) (length tag) (omega arith))) ∙ ap (matchOf p tag depth) (sym e)
 
   -- ---- what an answer says
@@ -97,20 +97,20 @@ module _ (p : Prefix) (tag : List ℕ) (depth : ℕ) where
   unfolding matchOf lengthMatch
   match-within Optimistic e = let b = on-true room (depth + p .full .0) Optimistic 0 e in (b .1 .0, omega (arith, b .1 .0, ltb-true (depth + p .full .0) (length tag) (b .0)))
   match-within Pessimistic e =
-      let b = on-true (agrees && room) (depth + p .full .0) (afterwards (p .full .0)) (agreed p tag depth) e in
+      let b = on-true (agrees && room) (depth + p .full .0) (afterwards (p .full .0)) (storedShared p tag depth) e in
       (b .1 .0, omega (arith, b .1 .0, ltb-true (depth + p .full .0) (length tag) (both agrees room (b .0) .1)))
 
   -- and while none was skipped it has the stored bytes
   match-agrees : {d : ℕ} {after : PrefixMatchBehavior} → matchOf p tag depth Pessimistic ≡ On d after
-      → (capped (p .full .0) ≤ agreed p tag depth) × (after ≡ afterwards (p .full .0))
+      → (capped (p .full .0) ≤ storedShared p tag depth) × (after ≡ afterwards (p .full .0))
   unfolding matchOf
   match-agrees e =
-      let b = on-true (agrees && room) (depth + p .full .0) (afterwards (p .full .0)) (agreed p tag depth) e in
-      (leb-true (capped (p .full .0)) (agreed p tag depth) (both agrees room (b .0) .0), b .1 .1)
+      let b = on-true (agrees && room) (depth + p .full .0) (afterwards (p .full .0)) (storedShared p tag depth) e in
+      (leb-true (capped (p .full .0)) (storedShared p tag depth) (both agrees room (b .0) .0), b .1 .1)
 
-  match-off : {j : ℕ} → matchOf p tag depth Pessimistic ≡ Off j → j ≡ agreed p tag depth
+  match-off : {j : ℕ} → matchOf p tag depth Pessimistic ≡ Off j → j ≡ storedShared p tag depth
   unfolding matchOf
-  match-off e = off-false (agrees && room) (depth + p .full .0) (afterwards (p .full .0)) (agreed p tag depth) e
+  match-off e = off-false (agrees && room) (depth + p .full .0) (afterwards (p .full .0)) (storedShared p tag depth) e
 
 -- ---- a run's prefix
 -- a list of n elements stands in front of another exactly if all of it is shared
@@ -127,8 +127,8 @@ module _ (run tag : List ℕ) (depth : ℕ) where
   stored-long : length (take 8 run) ≡ capped (length run)
   stored-long = length-take 8 run ∙ omega arith
 
-  run-agreed : agreed (prefixOf run) tag depth ≡ shared (take 8 run) (drop depth tag)
-  run-agreed = ap (λ (l : List ℕ). shared l (drop depth tag)) (held-run run)
+  run-shared : storedShared (prefixOf run) tag depth ≡ shared (take 8 run) (drop depth tag)
+  run-shared = ap (λ (l : List ℕ). shared l (drop depth tag)) (held-run run)
 
   -- the walk goes on exactly if the tag has the stored bytes at this depth, and bytes enough
   pub run-on : take (capped (length run)) (drop depth tag) ≡ take 8 run → depth + length run < length tag
@@ -138,14 +138,14 @@ module _ (run tag : List ℕ) (depth : ℕ) where
       let n = length run in
       let q : capped n ≤ shared (take 8 run) (drop depth tag) = begins-shared (take 8 run) (drop depth tag) (capped n) stored-long has in
       sym (match-by (prefixOf run) tag depth
-      (and-both (le-leb (capped n) (agreed (prefixOf run) tag depth) (omega (arith, run-agreed))) (lt-ltb (depth + n) (length tag) r)))
+      (and-both (le-leb (capped n) (storedShared (prefixOf run) tag depth) (omega (arith, run-shared))) (lt-ltb (depth + n) (length tag) r)))
 
   pub run-back : {d : ℕ} {after : PrefixMatchBehavior} → matchOf (prefixOf run) tag depth Pessimistic ≡ On d after
       → (take (capped (length run)) (drop depth tag) ≡ take 8 run) × (after ≡ afterwards (length run))
   unfolding prefixOf
   run-back e =
       let b = match-agrees (prefixOf run) tag depth e in
-      (shared-begins (take 8 run) (drop depth tag) (capped (length run)) stored-long (omega (arith, b .0, run-agreed)), b .1)
+      (shared-begins (take 8 run) (drop depth tag) (capped (length run)) stored-long (omega (arith, b .0, run-shared)), b .1)
 
   -- so it does wherever the tag has the whole run
   pub run-has : take (length run) (drop depth tag) ≡ run → depth + length run < length tag
@@ -167,4 +167,4 @@ module _ (run tag : List ℕ) (depth : ℕ) where
 
   -- off the prefix, the number is how many of the run's stored bytes are the tag's
   pub run-off : {j : ℕ} → matchOf (prefixOf run) tag depth Pessimistic ≡ Off j → j ≡ shared (take 8 run) (drop depth tag)
-  run-off e = match-off (prefixOf run) tag depth e ∙ run-agreed
+  run-off e = match-off (prefixOf run) tag depth e ∙ run-shared

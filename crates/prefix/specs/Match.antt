@@ -18,8 +18,8 @@ abbrev pub roomFor : ℕ → ℕ → ℕ → Bool
 roomFor full len depth = ltb (depth + full) len
 
 -- how many of the stored bytes are the tag's from this depth on
-abbrev pub agreed : Prefix → List ℕ → ℕ → ℕ
-agreed p tag depth = shared (held p) (drop depth tag)
+abbrev pub storedShared : Prefix → List ℕ → ℕ → ℕ
+storedShared p tag depth = shared (held p) (drop depth tag)
 
 -- passing a prefix over eight skips bytes
 abbrev pub afterwards : ℕ → PrefixMatchBehavior
@@ -33,6 +33,6 @@ lengthMatch full len depth = choose (roomFor full len depth) (On (depth + full) 
 unfoldable pub matchOf : Prefix → List ℕ → ℕ → PrefixMatchBehavior → PrefixMatch
 matchOf p tag depth Optimistic = lengthMatch (p .full .0) (length tag) depth
 matchOf p tag depth Pessimistic =
-    choose (leb (capped (p .full .0)) (agreed p tag depth) && roomFor (p .full .0) (length tag) depth)
+    choose (leb (capped (p .full .0)) (storedShared p tag depth) && roomFor (p .full .0) (length tag) depth)
     (On (depth + p .full .0) (afterwards (p .full .0)))
-    (Off (agreed p tag depth))
+    (Off (storedShared p tag depth))

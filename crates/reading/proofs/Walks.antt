@@ -17,7 +17,7 @@ use Rattle.lists.specs.Part.{between}
 use Rattle.lists.proofs.Compares.{eq-same, ne-same, begins-rest, rest-begins, shared-le, shared-front, shared-more}
 use Rattle.lists.proofs.Parts.{between-drop}
 use Rattle.prefix.specs.Run.{capped, held}
-use Rattle.prefix.specs.Match.{agreed, lengthMatch, matchOf}
+use Rattle.prefix.specs.Match.{storedShared, lengthMatch, matchOf}
 use Rattle.prefix.specs.declared.Prefix.{Prefix}
 use Rattle.prefix.specs.declared.lookup.PrefixMatchBehavior.{PrefixMatchBehavior}
 use Rattle.prefix.specs.declared.lookup.PrefixMatchBehavior.the-variants.{Pessimistic, Optimistic}
@@ -104,37 +104,37 @@ module _ (p : Prefix) (long : length (held p) ≡ capped (p .full .0)) (tag : Li
   abbrev full : ℕ
   full = p .full .0
 
-  met : Meets false (held p) (drop d tag) → capped full ≤ agreed p tag d
+  met : Meets false (held p) (drop d tag) → capped full ≤ storedShared p tag d
   met m =
       shared-more (held p) (drop d tag) (capped full) (omega arith) (omega (arith, ap length m, length-take (length (held p)) (drop d tag)))
       (take-all (capped full) (held p) (omega arith) ∙ sym m ∙ ap (λ (k : ℕ). take k (drop d tag)) long)
 
-  meets : capped full ≤ agreed p tag d → Meets false (held p) (drop d tag)
+  meets : capped full ≤ storedShared p tag d → Meets false (held p) (drop d tag)
   meets h =
-      let q : length (held p) ≡ agreed p tag d = omega (arith, shared-le (held p) (drop d tag)) in
-      ap (λ (k : ℕ). take k (drop d tag)) q ∙ sym (shared-front (held p) (drop d tag)) ∙ take-all (agreed p tag d) (held p) (omega arith)
+      let q : length (held p) ≡ storedShared p tag d = omega (arith, shared-le (held p) (drop d tag)) in
+      ap (λ (k : ℕ). take k (drop d tag)) q ∙ sym (shared-front (held p) (drop d tag)) ∙ take-all (storedShared p tag d) (held p) (omega arith)
 
-  missed : ¬ Meets false (held p) (drop d tag) → agreed p tag d < capped full
-  missed m = go (decLe (capped full) (agreed p tag d))
+  missed : ¬ Meets false (held p) (drop d tag) → storedShared p tag d < capped full
+  missed m = go (decLe (capped full) (storedShared p tag d))
     where
-      go : Dec (capped full ≤ agreed p tag d) → agreed p tag d < capped full
+      go : Dec (capped full ≤ storedShared p tag d) → storedShared p tag d < capped full
       go (yes h) = absurd (m (meets h))
       go (no h) = omega arith
 
   match-on : (sk : Bool) → Meets sk (held p) (drop d tag) → d + full < length tag → matchOf p tag d (behaves sk) ≡ On (d + full) (behaves (sk || ltb 8 full))
   unfolding matchOf lengthMatch
   match-on true m r = simp (lt-ltb (d + full) (length tag) r)
-  match-on false m r = simp (le-leb (capped full) (agreed p tag d) (met m), lt-ltb (d + full) (length tag) r)
+  match-on false m r = simp (le-leb (capped full) (storedShared p tag d) (met m), lt-ltb (d + full) (length tag) r)
 
   match-off : (sk : Bool) → ¬ Meets sk (held p) (drop d tag) → (j : ℕ) × (matchOf p tag d (behaves sk) ≡ Off j)
   unfolding matchOf
   match-off true m = absurd (m tt)
-  match-off false m = (agreed p tag d, simp (lt-leb (capped full) (agreed p tag d) (missed m)))
+  match-off false m = (storedShared p tag d, simp (lt-leb (capped full) (storedShared p tag d) (missed m)))
 
   match-short : (sk : Bool) → length tag ≤ d + full → (j : ℕ) × (matchOf p tag d (behaves sk) ≡ Off j)
   unfolding matchOf lengthMatch
   match-short true r = (0, simp (le-ltb (d + full) (length tag) r))
-  match-short false r = (agreed p tag d, simp (le-ltb (d + full) (length tag) r, and-false))
+  match-short false r = (storedShared p tag d, simp (le-ltb (d + full) (length tag) r, and-false))
 
 -- ── the walk over a block that shows a tree ──
 module _ {f : Frame} {words keys : List ℕ} (w : FrameOf f words keys) (rules : (x : Place) → Used (cellOf f words keys x) → ruleAt f words keys x ≡ true)
