@@ -170,10 +170,11 @@ module _ (σ : Store Held) (tight : TightIn σ) where
 
   module _ (f : Frame) (kinds : Kinds) (before : BeforeFree f) (hm : Home) where
     -- where a record goes it is over its mark
-    goes-over : (k n len : ℕ) (st : List ℕ) (rs : Refs) → σ (inner-place k n) ≡ inner-cell len st rs → (l j : ℕ) → 2 ≤ l → length rs ≤ suc l → Goes f σ k l j → markOf j < l
+    goes-over : (k n len : ℕ) (st : List ℕ) (rs : Refs) → σ (inner-place k n) ≡ inner-cell len st rs → (l : ℕ) (to : ℕ × ℕ) → 2 ≤ l → length rs ≤ suc l → Goes f σ k n l to → markOf (to .0) < l
     unfolding kindRow
-    goes-over k n len st rs e l j two most (stays i h) = omega (arith, ap markOf i)
-    goes-over k n len st rs e l j two most (shrinks i h) =
+    goes-over k n len st rs e l to two most (stays i h) = omega (arith, ap (λ (p : ℕ × ℕ). markOf (p .0)) i)
+    goes-over k n len st rs e l to two most (shrinks i h low) =
+        let j : ℕ = to .0 in
         let kind = kinds k n len st rs e in
         by-kind (λ m. suc j ≡ m → l ≤ markOf m → markOf m < length rs → markOf j < l)
         (λ q x y. omega arith)
@@ -181,18 +182,18 @@ module _ (σ : Store Held) (tight : TightIn σ) where
         (λ q x y. omega (arith, ap markOf (let p : j ≡ 2 = omega arith in p)))
         (λ q x y. omega (arith, ap markOf (let p : j ≡ 3 = omega arith in p)))
         k (kind .0) (kind .1) i h (subst (Over (markOf k)) e (tight k n))
-    goes-over k n len st rs e l j two most (crowded i h full) =
+    goes-over k n len st rs e l to two most (crowded i h full) =
         let kind = kinds k n len st rs e in
         absurd (before k n len st rs e (by-kind (λ m. l ≤ markOf m → 2 ≤ m) (λ x. omega arith) (λ x. omega arith) (λ x. omega arith) (λ x. omega arith) k (kind .0) (kind .1) h) full)
 
     settled-over : (k n b len : ℕ) (st : List ℕ) (rs : Refs) → σ (inner-place k n) ≡ inner-cell len st rs
-        → (2 ≤ length (cut-ref b rs) → Goes f σ k (length (cut-ref b rs)) ((hm k n (length (cut-ref b rs))) .0)) → (left : Refs) → cut-ref b rs ≡ left → OverAll (settle-refs σ hm k n len st left)
+        → (2 ≤ length (cut-ref b rs) → Goes f σ k n (length (cut-ref b rs)) (hm k n (length (cut-ref b rs)))) → (left : Refs) → cut-ref b rs ≡ left → OverAll (settle-refs σ hm k n len st left)
     settled-over k n b len st rs e goes [] q = absurd (omega (arith, cut-least b rs, ap length q, kinds k n len st rs e .2))
     settled-over k n b len st rs e goes (r ∷ []) q = (tt, merged len st (r .0) (r .1))
     settled-over k n b len st rs e goes (r ∷ r′ ∷ left) q =
         let l : ℕ = length (r ∷ r′ ∷ left) in
-        let g : 2 ≤ l → Goes f σ k l ((hm k n l) .0) = subst (λ (v : Refs). 2 ≤ length v → Goes f σ k (length v) ((hm k n (length v)) .0)) q goes in
-        (tt, (goes-over k n len st rs e l ((hm k n l) .0) (omega arith) (omega (arith, cut-least b rs, ap length q)) (g (omega arith)), tt))
+        let g : 2 ≤ l → Goes f σ k n l (hm k n l) = subst (λ (v : Refs). 2 ≤ length v → Goes f σ k n (length v) (hm k n (length v))) q goes in
+        (tt, (goes-over k n len st rs e l (hm k n l) (omega arith) (omega (arith, cut-least b rs, ap length q)) (g (omega arith)), tt))
 
     under-over : (upper up : Up) → Settles f σ hm up → OverAll (delete-under σ hm upper up)
     under-over upper top h = tt
@@ -204,7 +205,7 @@ module _ (σ : Store Held) (tight : TightIn σ) where
         go unused e = tt
         go (leaf-cell t a) e = tt
         go (inner-cell len st rs) e =
-            settled-over k n b len st rs e (subst (λ (c : Cell Held). let v : Refs = cut-ref b (cell-refs c) in 2 ≤ length v → Goes f σ k (length v) ((hm k n (length v)) .0)) e h) (cut-ref b rs) refl
+            settled-over k n b len st rs e (subst (λ (c : Cell Held). let v : Refs = cut-ref b (cell-refs c) in 2 ≤ length v → Goes f σ k n (length v) (hm k n (length v))) e h) (cut-ref b rs) refl
 
     pub delete-over : (pt : Point) → SettlesAt f σ hm pt → OverAll (delete-at σ hm pt)
     delete-over (art.holds upper up n) h = (tt, under-over upper up h)

@@ -26,7 +26,7 @@ use Rattle.art.specs.Listings.{lookup}
 use Rattle.art.specs.Facts.{height}
 use Rattle.art.specs.Deletes.{Home, stay}
 use Rattle.art.specs.Drops.{Roomy}
-use Rattle.art.specs.Stores.{Place, leaf-place, inner-place, Cell, unused, leaf-cell, Store, Used, root, refs, store, Once}
+use Rattle.art.specs.Stores.{Place, leaf-place, inner-place, Cell, leaf-cell, Store, Used, root, refs, store, Once}
 use Rattle.art.specs.Refs.{Refs, find-ref, cut-ref}
 use Rattle.art.specs.Chain.{Links}
 use Rattle.art.specs.Points as art
@@ -36,8 +36,7 @@ use Rattle.art.proofs.Walks.{store-shows}
 use Rattle.art.proofs.FitPoints.{point-fits}
 use Rattle.art.proofs.AlterPoints.{point-finds}
 use Rattle.pools.specs.Pool.{lowestFree}
-use Rattle.view.proofs.Pools.{lowest-free, none-free}
-use Rattle.view.proofs.Views.{cell-used}
+use Rattle.view.proofs.Pools.{lowest-free, lowest-used, none-free}
 use Rattle.reading.specs.Shown.{Shown}
 use Rattle.points.specs.Point.{pointOf}
 use Rattle.points.specs.declared.insert_point.Up.{Up}
@@ -47,8 +46,9 @@ use Rattle.points.specs.declared.insert_point.Point.the-variants.{Holds, Clash,
 use Rattle.writes.specs.declared.leaf_node.Gap.{Gap}
 use Rattle.pointed.specs.Told.{upTold, told}
 use Rattle.states.specs.State.{State}
-use Rattle.states.proofs.Steps.{state-count-word, state-leaf, state-zero}
-use Rattle.states.proofs.Standing.{ref-some, shown-at, stands}
+use Rattle.states.proofs.Steps.{state-count-word, state-leaf}
+use Rattle.states.proofs.Standing.{ref-some, stands}
+use Rattle.states.proofs.Lowest.{state-used, lowest-inner}
 use Rattle.delete.specs.declared.plan.Cut.{Cut}
 use Rattle.delete.specs.declared.plan.Cut.the-variants.{Stay, Shrink}
 use Rattle.delete.specs.declared.plan.Plan.{Plan}
@@ -90,12 +90,12 @@ module _ {f : Frame} {words keys : List ℕ} {σ : Store Held} {links : Links} {
   pool = used-pool s x here-used
 
   -- where it goes with one child less
-  settles-by : (hm : Home) → ((l : ℕ) → suc l ≡ length rs → 2 ≤ l → Goes f σ (ref % 8) l ((hm (ref % 8) (ref / 8) l) .0)) → Settles f σ hm (art.via (ref % 8) (ref / 8) b)
+  settles-by : (hm : Home) → ((l : ℕ) → suc l ≡ length rs → 2 ≤ l → Goes f σ (ref % 8) (ref / 8) l (hm (ref % 8) (ref / 8) l)) → Settles f σ hm (art.via (ref % 8) (ref / 8) b)
   settles-by hm goes =
-      subst (λ (c : Cell Held). let l : ℕ = length (cut-ref b (art.cell-refs c)) in 2 ≤ l → Goes f σ (ref % 8) l ((hm (ref % 8) (ref / 8) l) .0)) (sym (w .shown))
+      subst (λ (c : Cell Held). let l : ℕ = length (cut-ref b (art.cell-refs c)) in 2 ≤ l → Goes f σ (ref % 8) (ref / 8) l (hm (ref % 8) (ref / 8) l)) (sym (w .shown))
       (λ two. goes (length (cut-ref b rs)) (cut-length b rs y (w .child-is)) two)
 
-  stay-fits : 3 ≤ length rs → ((l : ℕ) → suc l ≡ length rs → 2 ≤ l → Goes f σ (ref % 8) l (ref % 8)) → Fits (Stay ref b)
+  stay-fits : 3 ≤ length rs → ((l : ℕ) → suc l ≡ length rs → 2 ≤ l → Goes f σ (ref % 8) (ref / 8) l (ref % 8, ref / 8)) → Fits (Stay ref b)
   stay-fits three goes = record { home = stay; roomy = λ k n l. inl refl; settles = settles-by stay goes; done = stay-done s near far o er upper ref b y w three }
 
   -- two children, of which one is left
@@ -130,15 +130,15 @@ module _ {f : Frame} {words keys : List ℕ} {σ : Store Held} {links : Links} {
 
       go : (t : Bool) → ltb m (getD (f .caps) j 0) ≡ t → Fits (choose t (Shrink upper ref (m * 8 + j) b) (Stay ref b))
       go false t =
-          stay-fits three (λ l i two. crowded refl (omega arith) (λ n p. subst Used (shown-at s (inner-place j n)) (cell-used f words keys (inner-place j n) p (none-free f words (inner-place j n) p (ltb-false _ _ t)))))
+          stay-fits three (λ l i two. crowded refl (omega arith) (λ n p. state-used s (inner-place j n) p (none-free f words (inner-place j n) p (ltb-false _ _ t))))
       go true t =
           let new-pool : inPool f (inner-place j m) ≡ true = and-both (le-leb j 4 (omega (arith, kind .1))) t in
-          let free : σ (inner-place j m) ≡ unused = state-zero s (inner-place j m) new-pool (lowest-free f words (inner-place j m) new-pool refl) in
+          let low = lowest-inner s j m new-pool (lowest-free f words (inner-place j m) new-pool refl) (λ i h. lowest-used f words (inner-place j i) h) in
           record {
             home = shrinkHome j m;
-            roomy = λ k n l. inr free;
-            settles = settles-by (shrinkHome j m) (λ l i two. shrinks (omega (arith, kind .0)) (omega arith));
-            done = shrink-done s near far o er upper ref b y w j m new-pool free three (room (leb 2 (ref % 8)) refl (kind-rules (ref % 8) (kind .0) (kind .1) .mark));
+            roomy = λ k n l. inr (low .free);
+            settles = settles-by (shrinkHome j m) (λ l i two. shrinks (omega (arith, kind .0)) (omega arith) low);
+            done = shrink-done s near far o er upper ref b y w j m new-pool (low .free) three (room (leb 2 (ref % 8)) refl (kind-rules (ref % 8) (kind .0) (kind .1) .mark));
           }
 
   pub under-fits : Fits (cutUnder f words upper ref b)

@@ -17,20 +17,21 @@ use Rattle.art.specs.Drops.{Roomy}
 use Rattle.art.specs.Stores.{inner-place, Store, root, store, Used}
 use Rattle.art.specs.Refs.{cut-ref}
 use Rattle.art.specs.Points.{Up, top, via, Point, holds, clashes, into, fork, broken, point, cell-refs}
+use Rattle.states.specs.Lowest.{Lowest}
 
--- with so many children left the record of a kind is of kind j afterwards
-pub data Goes (f : Frame) (σ : Store Held) (kind left j : ℕ) : Type 0 where
-  -- above its mark it stays
-  stays : j ≡ kind → markOf kind < left → Goes f σ kind left j
-  -- at or below its mark it moves to the next smaller kind
-  shrinks : suc j ≡ kind → left ≤ markOf kind → Goes f σ kind left j
-  -- but stays where every record of that kind is in use
-  crowded : j ≡ kind → left ≤ markOf kind → ((n : ℕ) → inPool f (inner-place (kind - 1) n) ≡ true → Used (σ (inner-place (kind - 1) n))) → Goes f σ kind left j
+-- with so many children left the record of a kind and number is of these afterwards
+pub data Goes (f : Frame) (σ : Store Held) (kind number left : ℕ) (to : ℕ × ℕ) : Type 0 where
+  -- above its mark it stays where it is
+  stays : to ≡ (kind, number) → markOf kind < left → Goes f σ kind number left to
+  -- at or below its mark it moves to the lowest free record of the next smaller kind
+  shrinks : suc (to .0) ≡ kind → left ≤ markOf kind → Lowest f σ (inner-place (to .0)) (to .1) → Goes f σ kind number left to
+  -- but stays where it is if every record of that kind is in use
+  crowded : to ≡ (kind, number) → left ≤ markOf kind → ((n : ℕ) → inPool f (inner-place (kind - 1) n) ≡ true → Used (σ (inner-place (kind - 1) n))) → Goes f σ kind number left to
 
 -- the record above a leaf, where it keeps two children or more
 abbrev pub Settles : Frame → Store Held → Home → Up → Type 0
 Settles f σ hm top = Unit {0}
-Settles f σ hm (via k n b) = let left : ℕ = length (cut-ref b (cell-refs (σ (inner-place k n)))) in 2 ≤ left → Goes f σ k left ((hm k n left) .0)
+Settles f σ hm (via k n b) = let left : ℕ = length (cut-ref b (cell-refs (σ (inner-place k n)))) in 2 ≤ left → Goes f σ k n left (hm k n left)
 
 abbrev pub SettlesAt : Frame → Store Held → Home → Point → Type 0
 SettlesAt f σ hm (holds upper up n) = Settles f σ hm up

@@ -1,8 +1,10 @@
 -- Delete on sound blocks: each way for the record above the leaf, which undoes the insert of the same tag, and a tag that is not held.
-use mathlib.Core.Path.{_≡_, refl, ap, subst, _∙_}
+use Prim.Native.Nat.{ℕ, zero, suc, _<_}
+use mathlib.Core.Path.{_≡_, refl, ap, ap₂, subst, _∙_}
 use mathlib.Core.Logic.{_≢_}
 use mathlib.Core.List.{[], _∷_}
-use mathlib.Core.Option.{none}
+use mathlib.Core.Option.{Option, none}
+use mathlib.Core.Bool.{true}
 use native.Mathlib.Omega.{arith}
 use lib.ListN.{replicate}
 use Rattle.records.specs.View.{Held}
@@ -10,10 +12,15 @@ use Rattle.art.specs.Tags.{Listing}
 use Rattle.art.specs.Listings.{lookup}
 use Rattle.art.specs.Puts.{leave}
 use Rattle.art.specs.Deletes.{held}
+use Rattle.art.specs.Trees.{Tree}
+use Rattle.art.specs.Stores.{inner-place, store}
 use Rattle.frames.specs.Frame.{frame}
+use Rattle.frames.specs.Place.{inPool}
 use Rattle.whole.specs.Sound.{Sound}
 use Rattle.whole.proofs.Samples.{two-words, two-keys, two-sound}
 use Rattle.points.specs.declared.insert_point.Up.the-variants.{Top}
+use Rattle.view.proofs.Apart.{number-few}
+use Rattle.states.specs.Lowest.{Lowest}
 use Rattle.delete.specs.Plan.{planOf}
 use Rattle.delete.specs.Apply.{TakeReady}
 use Rattle.delete.specs.Delete.{out}
@@ -23,11 +30,11 @@ use Rattle.delete.specs.declared.answer.Deleted.the-variants as deleted
 use Rattle.delete.proofs.Ready.{delete-ready}
 use Rattle.delete.proofs.Sounds.{delete-sound, delete-without}
 use Rattle.delete.specs.Meets.{Deletes}
-use Rattle.delete.specs.Without.{WithoutFrom}
+use Rattle.delete.specs.Without.{Goes, stays, shrinks, crowded, Without, WithoutFrom}
 use Rattle.delete.proofs.Answers.{never-broken, missing-held, held-missing, call-answers}
 use Rattle.instances.specs.Opened.{opened}
-use Rattle.instances.specs.Blocks.{bare, spare, two, room, three, full, wide, long, parted, A, B, C, D, E, J1, J2, AX, entry, Holds, gap}
-use Rattle.instances.proofs.Sounds.{spare-sound, three-sound, wide-sound, parted-sound, spare-holds, two-holds, three-holds, wide-holds, parted-holds}
+use Rattle.instances.specs.Blocks.{bare, spare, two, room, three, full, wide, cramped, cramped-less, long, parted, triple, quintuple, A, B, C, D, E, J1, J2, AX, entry, Holds, gap}
+use Rattle.instances.proofs.Sounds.{spare-sound, three-sound, wide-sound, cramped-sound, parted-sound, spare-holds, two-holds, three-holds, wide-holds, parted-holds, three-tree, wide-tree, cramped-tree}
 
 -- ── a held tag, for each way with the record above: what the writes need is there, and they leave a sound block without the tag ──
 -- the last tag of all
@@ -52,6 +59,22 @@ stay-out =
     let z = delete-sound three-sound C refl (Stay 1 67) 2 (gap 13 0) refl in
     (z .0, z .1 ∙ ap (leave C) three-holds)
 
+-- the tree is the one before without the tag, and the record is above its mark
+stay-tree : (s : Sound (room .words) (room .keys)) × Without (frame (three .words)) triple C (s .tree)
+unfolding opened
+stay-tree =
+    let z = delete-without three-sound C refl (Stay 1 67) 2 (gap 13 0) refl in
+    (z .0, subst (λ (d : Option (Tree Held)). WithoutFrom (frame (three .words)) d C (z .0 .tree)) three-tree (z .1))
+
+stay-place : stay-tree .1 .home 1 0 2 ≡ (1, 0)
+unfolding opened
+stay-place = go (stay-tree .1 .settles (omega arith))
+  where
+    go : {to : ℕ × ℕ} → Goes (frame (three .words)) (store triple []) 1 0 2 to → to ≡ (1, 0)
+    go (stays e h) = e
+    go (shrinks e h low) = absurd (omega arith)
+    go (crowded e h used) = e
+
 -- it moves into the smaller kind
 shrink-ready : TakeReady (frame (wide .words)) (wide .words) (Shrink Top 2 1 69) 4 (gap 29 0)
 unfolding opened
@@ -63,10 +86,49 @@ shrink-out =
     let z = delete-sound wide-sound E refl (Shrink Top 2 1 69) 4 (gap 29 0) refl in
     (z .0, z .1 ∙ ap (leave E) wide-holds)
 
--- the tree is the one before without the tag, and the record came to its mark
-shrink-tree : (s : Sound (full .words) (full .keys)) × WithoutFrom (frame (wide .words)) (wide-sound .tree) E (s .tree)
+-- the record came to its mark, and takes the lowest free record of kind 1
+shrink-tree : (s : Sound (full .words) (full .keys)) × Without (frame (wide .words)) quintuple E (s .tree)
 unfolding opened
-shrink-tree = delete-without wide-sound E refl (Shrink Top 2 1 69) 4 (gap 29 0) refl
+shrink-tree =
+    let z = delete-without wide-sound E refl (Shrink Top 2 1 69) 4 (gap 29 0) refl in
+    (z .0, subst (λ (d : Option (Tree Held)). WithoutFrom (frame (wide .words)) d E (z .0 .tree)) wide-tree (z .1))
+
+shrink-place : shrink-tree .1 .home 2 0 4 ≡ (1, 0)
+unfolding opened
+shrink-place = go (shrink-tree .1 .settles (omega arith))
+  where
+    -- every record of kind 1 is free
+    zeroth : (n : ℕ) → Lowest (frame (wide .words)) (store quintuple []) (inner-place 1) n → n ≡ 0
+    zeroth zero low = refl
+    zeroth (suc n) low = absurd (low .lower 0 (omega arith))
+
+    first : (j n : ℕ) → j ≡ 1 → Lowest (frame (wide .words)) (store quintuple []) (inner-place j) n → _≡_ {A = ℕ × ℕ} (j, n) (1, 0)
+    first j n e low = ap₂ (λ (k m : ℕ). (k, m)) e (zeroth n (subst (λ (k : ℕ). Lowest (frame (wide .words)) (store quintuple []) (inner-place k) n) e low))
+
+    go : {to : ℕ × ℕ} → Goes (frame (wide .words)) (store quintuple []) 2 0 4 to → to ≡ (1, 0)
+    go (stays e h) = absurd (omega arith)
+    go {to} (shrinks e h low) = first (to .0) (to .1) (omega arith) low
+    go (crowded e h used) = absurd (used 0 refl)
+
+-- or stays where it is, since there is none
+crowded-tree : (s : Sound (cramped-less .words) (cramped-less .keys)) × Without (frame (cramped .words)) quintuple E (s .tree)
+unfolding opened
+crowded-tree =
+    let z = delete-without cramped-sound E refl (Stay 2 69) 4 (gap 29 0) refl in
+    (z .0, subst (λ (d : Option (Tree Held)). WithoutFrom (frame (cramped .words)) d E (z .0 .tree)) cramped-tree (z .1))
+
+crowded-place : crowded-tree .1 .home 2 0 4 ≡ (2, 0)
+unfolding opened
+crowded-place = go (crowded-tree .1 .settles (omega arith))
+  where
+    -- kind 1 has no record
+    none-there : (j n : ℕ) → j ≡ 1 → Lowest (frame (cramped .words)) (store quintuple []) (inner-place j) n → ⊥
+    none-there j n e low = let few : n < 0 = number-few (frame (cramped .words)) (inner-place 1 n) (subst (λ (k : ℕ). inPool (frame (cramped .words)) (inner-place k n) ≡ true) e (low .pool)) in omega arith
+
+    go : {to : ℕ × ℕ} → Goes (frame (cramped .words)) (store quintuple []) 2 0 4 to → to ≡ (2, 0)
+    go (stays e h) = e
+    go {to} (shrinks e h low) = absurd (none-there (to .0) (to .1) (omega arith) low)
+    go (crowded e h used) = e
 
 -- the one child left stands in its place
 merge-ready : TakeReady (frame (two .words)) (two .words) (Merge Top 1 5 65) 1 (gap 5 0)

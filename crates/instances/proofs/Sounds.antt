@@ -27,7 +27,7 @@ use Rattle.pointed.proofs.Sounds.{sound-shown}
 use Rattle.demands.specs.Due.{Passed}
 use Rattle.demands.proofs.Reading.{sound-reads}
 use Rattle.instances.specs.Opened.{opened}
-use Rattle.instances.specs.Blocks.{bare, spare, two, lone, room, three, swapped, full, wide, long, parted, lend, A, B, C, D, E, J1, J2, AX, holding, entry, pair, triple, long-tags, parted-tags}
+use Rattle.instances.specs.Blocks.{bare, spare, two, lone, room, three, swapped, full, wide, cramped, long, parted, lend, A, B, C, D, E, J1, J2, AX, holding, entry, pair, triple, quintuple, long-tags, parted-tags}
 
 -- ── sound by computing ──
 pub bare-sound : Sound (bare .words) (bare .keys)
@@ -61,6 +61,10 @@ full-sound = whole-sound (full .words) (full .keys) refl
 pub wide-sound : Sound (wide .words) (wide .keys)
 unfolding opened
 wide-sound = whole-sound (wide .words) (wide .keys) refl
+
+pub cramped-sound : Sound (cramped .words) (cramped .keys)
+unfolding opened
+cramped-sound = whole-sound (cramped .words) (cramped .keys) refl
 
 pub long-sound : Sound (long .words) (long .keys)
 unfolding opened
@@ -159,6 +163,14 @@ room-tree = tree-is room-sound
 pub three-tree : three-sound .tree ≡ some triple
 unfolding opened
 three-tree = tree-is three-sound
+
+pub wide-tree : wide-sound .tree ≡ some quintuple
+unfolding opened
+wide-tree = tree-is wide-sound
+
+pub cramped-tree : cramped-sound .tree ≡ some quintuple
+unfolding opened
+cramped-tree = tree-is cramped-sound
 
 pub long-tree : long-sound .tree ≡ some long-tags
 unfolding opened

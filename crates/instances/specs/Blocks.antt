@@ -120,6 +120,25 @@ wide =
     ++ trailer 92 73 30 1 1 5 2 5 37 5 108)
     (key 65 ++ key 66 ++ key 67 ++ key 68 ++ key 69)
 
+-- ── a record of kind 2, and five leaves ──
+-- the same five tags: no record of kind 1 is there to move to
+abbrev pub cramped : Block
+cramped =
+    block
+    ((2 ∷ 5 ∷ 0 ∷ replicate 8 0) ++ (65 ∷ 66 ∷ 67 ∷ 68 ∷ 69 ∷ replicate 11 0) ++ (5 ∷ 13 ∷ 21 ∷ 29 ∷ 37 ∷ replicate 11 0)
+    ++ leaf-at 0 13 1 ++ leaf-at 5 21 2 ++ leaf-at 13 29 3 ++ leaf-at 21 37 4 ++ leaf-at 29 0 5
+    ++ trailer 73 73 30 0 1 5 2 5 37 5 89)
+    (key 65 ++ key 66 ++ key 67 ++ key 68 ++ key 69)
+
+-- and without E
+abbrev pub cramped-less : Block
+cramped-less =
+    block
+    ((2 ∷ 4 ∷ 0 ∷ replicate 8 0) ++ (65 ∷ 66 ∷ 67 ∷ 68 ∷ replicate 12 0) ++ (5 ∷ 13 ∷ 21 ∷ 29 ∷ replicate 12 0)
+    ++ leaf-at 0 13 1 ++ leaf-at 5 21 2 ++ leaf-at 13 29 3 ++ leaf-at 21 0 4 ++ replicate 6 0
+    ++ trailer 73 73 30 0 1 5 2 5 29 4 89)
+    (key 65 ++ key 66 ++ key 67 ++ key 68 ++ no-key)
+
 -- ── two records of kind 1, and three leaves: tags with a run of ten bytes ──
 abbrev pub CtoJ : List ℕ
 CtoJ = 67 ∷ 68 ∷ 69 ∷ 70 ∷ 71 ∷ 72 ∷ 73 ∷ 74 ∷ []
@@ -197,6 +216,11 @@ pair = inner 1 0 [] (child 65 (leaf 0 [] (holding 0 7)) (child 66 (leaf 1 [] (ho
 
 abbrev pub triple : Tree Held
 triple = inner 1 0 [] (child 65 (leaf 0 [] (holding 0 7)) (child 66 (leaf 1 [] (holding 1 8)) (child 67 (leaf 2 [] (holding 2 9)) end)))
+
+-- the tree of A to E below a record of kind 2
+abbrev pub quintuple : Tree Held
+quintuple =
+    inner 2 0 [] (child 65 (leaf 0 [] (holding 0 1)) (child 66 (leaf 1 [] (holding 1 2)) (child 67 (leaf 2 [] (holding 2 3)) (child 68 (leaf 3 [] (holding 3 4)) (child 69 (leaf 4 [] (holding 4 5)) end)))))
 
 -- the trees of the two long tags, and of these and AX
 abbrev pub long-tags : Tree Held
