@@ -135,11 +135,11 @@ module _ (σ : Store Held) (tight : TightIn σ) where
 
   module _ (f : Frame) (low : ForksLow f) (next : GrowsNext f) (plan : Plan) (tag : Tag) (bytes : Bytes tag) (a : Held) where
     taken : (up : Up) (k n x : ℕ) (y : Place) → IntoFits σ tag up k n x → Chosen f σ plan (art.into up k n x) → OverAt (home-place plan k n) (add-cell x y (σ (inner-place k n)))
-    taken up k n x y p (inl e) = subst (λ (z : Place). OverAt z (add-cell x y (σ (inner-place k n)))) (sym e) (added-over (markOf k) x y (σ (inner-place k n)) (tight k n))
+    taken up k n x y p (inl e) = subst (λ (z : Place). OverAt z (add-cell x y (σ (inner-place k n)))) (sym (e .1)) (added-over (markOf k) x y (σ (inner-place k n)) (tight k n))
     taken up k n x y p (inr h) =
         let shown = p .record-at .shown in
         let full : childrenOf k ≤ length (p .rs) = subst (λ (c : Cell Held). childrenOf k ≤ length (cell-refs c)) shown (h .0) in
-        let few = next k n (p .len) x (p .record-at .stored) (p .rs) shown (p .missing) (omega (arith, bytes (p .depth), p .byte)) full ((plan .home k n) .0) (h .1) in
+        let few = next k n (p .len) x (p .record-at .stored) (p .rs) shown (p .missing) (omega (arith, bytes (p .depth), p .byte)) full ((plan .home k n) .0) (h .1 .0) in
         subst (λ (c : Cell Held). Over (markOf ((plan .home k n) .0)) (add-cell x y c)) (sym shown) (omega (arith, few, add-length x y (p .rs) (p .missing)))
 
     pub insert-over : (pt : Point) → PointFits σ tag pt → Chosen f σ plan pt → OverAll (insert-at σ plan tag a pt)
@@ -148,7 +148,7 @@ module _ (σ : Store Held) (tight : TightIn σ) where
     insert-over (art.into up k n x) p h = (tt, (tt, (taken up k n x (leaf-place (plan .leaf-number)) p h, relinked up (inner-place k n) (home-place plan k n))))
     insert-over (art.fork up y w d c) p h =
         over-both (shorten (tag-at σ w) d c y (σ y)) _ (shortened (tag-at σ w) d c y)
-        (tt, (omega (arith, low (plan .fork-kind) h, pair-some _ _ (order (getD tag (d + c) 0) (getD (tag-at σ w) (d + c) 0)) (leaf-place (plan .leaf-number)) y), relinked up y (fork-place plan)))
+        (tt, (omega (arith, low (plan .fork-kind) (h .0), pair-some _ _ (order (getD tag (d + c) 0) (getD (tag-at σ w) (d + c) 0)) (leaf-place (plan .leaf-number)) y), relinked up y (fork-place plan)))
     insert-over art.broken p h = tt
 
   -- ── a tag that leaves ──

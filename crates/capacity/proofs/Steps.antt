@@ -116,7 +116,7 @@ module _ {words keys : List ℕ} (s : Sound words keys) where
       where
         go : (o : Option (Tree Held)) → Sane o → OnceOf o → Shows o → TightIn (store-of o) → ¬ LeavesFull f (store-of o) → GrownFrom f o tag a d → TightIn (store-of d)
         go none g once st h free e =
-            subst (λ (o : Option (Tree Held)). TightIn (store-of o)) (sym e) (apply-tight empty ((leaf-place (a .number), leaf-cell tag a) ∷ []) empty-tight (tt, tt))
+            subst (λ (o : Option (Tree Held)). TightIn (store-of o)) (sym (e .1)) (apply-tight empty ((leaf-place (a .number), leaf-cell tag a) ∷ []) empty-tight (tt, tt))
         go (some t) g once st h free e = grown-tight t st tag bytes g once h ample free a d e
 
     -- without a held one

@@ -32,7 +32,6 @@ use Rattle.art.proofs.Walks.{store-shows}
 use Rattle.art.proofs.InsertPoints.{point-judges}
 use Rattle.view.specs.Pools.{FreeAt}
 use Rattle.view.proofs.Pools.{kind-free}
-use Rattle.view.proofs.Views.{cell-used}
 use Rattle.reading.specs.Answers.{Bytes}
 use Rattle.reading.specs.Shown.{Shown}
 use Rattle.reading.proofs.Entries.{shown-root, zero-unused, tree-shows}
@@ -40,18 +39,17 @@ use Rattle.whole.specs.Witness.{tagAt}
 use Rattle.points.specs.Point.{pointOf}
 use Rattle.points.specs.declared.insert_point.Point.{Point}
 use Rattle.states.specs.State.{State}
-use Rattle.states.proofs.Standing.{shown-at}
-use Rattle.states.proofs.Steps.{state-zero}
+use Rattle.states.proofs.Lowest.{state-used, lowest-inner}
 use Rattle.writes.specs.Above.{linkUp}
 use Rattle.pointed.specs.Told.{upTold, told}
 use Rattle.pointed.proofs.Aparts.{up-apart}
 use Rattle.pointed.proofs.Ups.{up-edits, up-root}
 use Rattle.insert.specs.declared.plan.Site.{Site}
 use Rattle.insert.specs.Apply.{forked, hung}
-use Rattle.insert.specs.Grown.{Smallest, Chosen}
+use Rattle.insert.specs.Grown.{NextFree, Chosen}
 use Rattle.insert.proofs.Plans.{Planned, first, adds, grows, forks}
 use Rattle.insert.proofs.Runs.{PlaceRun}
-use Rattle.insert.proofs.Intos.{into-full, add-state, grow-state}
+use Rattle.insert.proofs.Intos.{into-children, add-state, grow-state}
 use Rattle.insert.proofs.Forks.{fork-tag, fork-state}
 use Rattle.insert.proofs.Ready.{bytes-all, told-point, into-fits, into-byte, fork-fits, fork-run, fork-there}
 use Rattle.insert.proofs.Plants.{stayPlan, movePlan, forkPlan, Planted, add-planted, grow-planted, fork-planted}
@@ -95,9 +93,9 @@ module _ {f : Frame} {words keys : List ℕ} {t : Tree Held} {links : Links} {co
   tag-apart p e v =
       free-apart tag (contents t) (some-inj (sym (point-judges most σ t (s .good) (store-shows t [] (s .once)) (omega arith) tag) ∙ ap point-verdict (at p e) ∙ v))
 
-  -- records of the smaller kinds are in use
-  smallest : (kind k m : ℕ) → FreeAt f words kind k m → Smallest f σ kind k
-  smallest kind k m h = (h .from, λ j i l less p. subst Used (shown-at st (inner-place j i)) (cell-used f words keys (inner-place j i) p (h .smaller j i l less p)))
+  -- records of the smaller kinds are in use, and those of lower numbers
+  next-free : (kind k m : ℕ) → FreeAt f words kind k m → NextFree f σ kind k m
+  next-free kind k m h = ((h .from, λ j i l less p. state-used st (inner-place j i) p (h .smaller j i l less p)), lowest-inner st k m (h .pool) (h .free) (h .lower))
 
   takes : (p : Point) → pointOf f words keys tag (rootWord words) ≡ p → (plan : Plan) → Chosen f σ plan (told p) → Chosen f σ plan (point most σ (root t) tag)
   takes p e plan h = subst (Chosen f σ plan) (sym (at p e)) h
@@ -113,19 +111,20 @@ module _ {f : Frame} {words keys : List ℕ} {t : Tree Held} {links : Links} {co
         ref = refOf (root t);
         state = add-state st tag up ref byte fits room (into-byte s tag tag-bytes up ref byte e) n pool;
         planted = add-planted t (s .good) (s .once) most (omega arith) tag n new (upTold up) (ref % 8) (ref / 8) byte fits (at _ e) spare (refOf (root t)) refl;
-        chosen = takes _ e (stayPlan n) (inl refl);
+        chosen = takes _ e (stayPlan n) (inl (omega (arith, room, into-children st tag up ref byte fits), refl));
         apart = tag-apart _ e refl;
       }
   hung-tree site (grows up ref byte k m u e full fr) =
       let fits = into-fits s tag tag-bytes up ref byte e in
       let f′ = kind-free f words (suc (ref % 8)) k m fr in
+      let next = next-free (suc (ref % 8)) k m f′ in
       record {
         plan = movePlan n k m;
         cells = _;
         ref = up-root (upTold up) (refOf (root t)) (m * 8 + k);
         state = grow-state st tag up ref byte fits (up-apart t (s .once)) (into-byte s tag tag-bytes up ref byte e) n pool k m f′;
-        planted = grow-planted t (s .good) (s .once) most (omega arith) tag n new (upTold up) (ref % 8) (ref / 8) byte fits (at _ e) spare k m (state-zero st (inner-place k m) (f′ .pool) (f′ .free)) (refOf (root t)) refl;
-        chosen = takes _ e (movePlan n k m) (inr (into-full st tag up ref byte fits full, smallest (suc (ref % 8)) k m f′));
+        planted = grow-planted t (s .good) (s .once) most (omega arith) tag n new (upTold up) (ref % 8) (ref / 8) byte fits (at _ e) spare k m (next .1 .free) (refOf (root t)) refl;
+        chosen = takes _ e (movePlan n k m) (inr (omega (arith, full, into-children st tag up ref byte fits), next));
         apart = tag-apart _ e refl;
       }
   hung-tree site (forks up ref leaf d c k m u e fr) =
@@ -133,7 +132,7 @@ module _ {f : Frame} {words keys : List ℕ} {t : Tree Held} {links : Links} {co
       let run = fork-run s tag tag-bytes up ref leaf d c e in
       let there = fork-there s tag tag-bytes up ref leaf d c e in
       let f′ = kind-free f words 1 k m fr in
-      let free′ : σ (inner-place k m) ≡ unused = state-zero st (inner-place k m) (f′ .pool) (f′ .free) in
+      let next = next-free 1 k m f′ in
       let y : Place = placeAt ref in
       let made : Tag → Store Held = λ v. apply (write (apply σ (shorten v d c y (σ y))) (inner-place k m) (inner-cell c (take 8 (take c (drop d tag))) (pair-ref (getD tag (d + c) 0) (leaf-place n) (getD v (d + c) 0) y))) (up-edits σ (upTold up) (inner-place k m)) in
       record {
@@ -143,7 +142,7 @@ module _ {f : Frame} {words keys : List ℕ} {t : Tree Held} {links : Links} {co
         state = subst (λ (v : Tag). State f (linkUp f up (m * 8 + k) (forked f ref (m * 8 + k) tag (tagAt f words keys leaf) d c (leaf-ref n) words)) keys (made v) links (up-root (upTold up) (refOf (root t)) (m * 8 + k)) count)
             (sym (fork-tag st (up-apart t (s .once)) tag up ref leaf d c fits run there (bytes-all tag tag-bytes) (bytes-all keys key-bytes) short n pool k m f′))
             (fork-state st (up-apart t (s .once)) tag up ref leaf d c fits run there (bytes-all tag tag-bytes) (bytes-all keys key-bytes) short n pool k m f′);
-        planted = fork-planted t (s .good) (s .once) most (omega arith) tag n new (upTold up) y (leaf / 8) d c (at _ e) k m free′ (run-used σ y (leaf / 8) d c k m run free′) (refOf (root t)) refl;
-        chosen = takes _ e (forkPlan n k m) (smallest 1 k m f′);
+        planted = fork-planted t (s .good) (s .once) most (omega arith) tag n new (upTold up) y (leaf / 8) d c (at _ e) k m (next .1 .free) (run-used σ y (leaf / 8) d c k m run (next .1 .free)) (refOf (root t)) refl;
+        chosen = takes _ e (forkPlan n k m) next;
         apart = tag-apart _ e refl;
       }

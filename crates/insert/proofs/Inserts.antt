@@ -15,7 +15,6 @@ use Rattle.frames.specs.declared.frame.Frame.{Frame}
 use Rattle.frames.proofs.FormTable.{form-in}
 use Rattle.frames.proofs.Frames.{totals}
 use Rattle.records.specs.Own.{totalOf}
-use Rattle.art.specs.Puts.{put}
 use Rattle.art.specs.Deletes.{held}
 use Rattle.art.specs.Verdicts.{known, judge}
 use Rattle.art.specs.Stores.{leaf-place}
@@ -26,6 +25,8 @@ use Rattle.whole.specs.declared.check.Checked.the-variants as checked
 use Rattle.whole.specs.Sound.{Sound}
 use Rattle.whole.proofs.Sounds.{sound-whole}
 use Rattle.reading.specs.Answers.{Bytes}
+use Rattle.states.proofs.Lowest.{lowest-leaf}
+use Rattle.states.proofs.Sounds.{sound-state}
 use Rattle.insert.specs.declared.answer.Inserted.the-variants as inserted
 use Rattle.insert.specs.declared.plan.Plan.{Plan}
 use Rattle.insert.specs.declared.plan.Plan.the-variants.{Over, New, Clash, NoLeaf, NoRecord, Broken}
@@ -50,11 +51,8 @@ module _ {words keys : List ℕ} (s : Sound words keys) (tag : List ℕ) (tag-by
       overwrites h (record { old = record { number = leaf / 8; total = totalOf (recordAt f words (leaf-place (leaf / 8))) }; was = over-held s tag tag-bytes leaf e; answers = refl; sound = done .0; holds = done .1 })
   plan-meets (New site n gap) e h =
       let done = insert-sound s tag tag-bytes key-bytes short site n gap total e in
-      puts-in (h .0) (h .1) (h .2) (record {
-        answers = refl;
-        sound = done .0;
-        holds = done .1 ∙ ap (λ (m : ℕ). put tag (record { number = m; total = total }) (held (s .tree))) (sym (plan-new f words keys tag site n gap e .number));
-      })
+      let new = plan-new f words keys tag site n gap e in
+      puts-in (h .0) (h .1) (h .2) (record { answers = refl; sound = done .0; leaf = n; lowest = lowest-leaf (sound-state s) n (new .number) (new .room); holds = done .1 })
   plan-meets Clash e h = clashes h (record { answers = refl; words-kept = refl; keys-kept = refl })
   plan-meets NoLeaf e h = no-leaf (h .0) (h .1) (record { answers = refl; words-kept = refl; keys-kept = refl })
   plan-meets NoRecord e h = no-record (h .0) (h .1) (h .2) (record { answers = refl; words-kept = refl; keys-kept = refl })

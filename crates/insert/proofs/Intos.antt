@@ -76,9 +76,9 @@ module _ {f : Frame} {words keys : List ℕ} {σ : Store Held} {links : Links} {
   into-count : getD (recordAt f words x) 1 0 ≡ length rs
   into-count = state-count-word s (ref % 8) (ref / 8) len st rs (fits .record-at .shown)
 
-  pub into-full : childrenOf (ref % 8) ≤ getD (recordAt f words (placeAt ref)) 1 0 → childrenOf (ref % 8) ≤ length (cell-refs (σ x))
-  into-full h =
-      omega (arith, h, ap (λ (y : Place). getD (recordAt f words y) 1 0) into-place, into-count, ap (λ (c : Cell Held). length (cell-refs c)) (fits .record-at .shown))
+  pub into-children : getD (recordAt f words (placeAt ref)) 1 0 ≡ length (cell-refs (σ x))
+  into-children =
+      omega (arith, ap (λ (y : Place). getD (recordAt f words y) 1 0) into-place, into-count, ap (λ (c : Cell Held). length (cell-refs c)) (fits .record-at .shown))
 
   -- ── in place ──
   module _ (room : getD (recordAt f words (placeAt ref)) 1 0 < childrenOf (ref % 8)) where

@@ -32,8 +32,7 @@ use Rattle.pools.specs.declared.pools.Free.{Free}
 use Rattle.pools.specs.declared.pools.Free.the-variants as pools
 use Rattle.view.specs.Pools.{FreeAt, NoneFree}
 use Rattle.view.specs.Links.{linksOf}
-use Rattle.view.proofs.Pools.{none-free, free-leaf, kind-free, kind-none}
-use Rattle.view.proofs.Views.{cell-used}
+use Rattle.view.proofs.Pools.{none-free, kind-free, kind-none}
 use Rattle.whole.specs.Sound.{Sound}
 use Rattle.reading.specs.Answers.{Bytes}
 use Rattle.reading.specs.Shown.{Shown}
@@ -44,8 +43,8 @@ use Rattle.points.specs.declared.insert_point.Point.{Point}
 use Rattle.points.specs.declared.insert_point.Point.the-variants as code
 use Rattle.writes.specs.declared.leaf_node.Gap.{Gap}
 use Rattle.states.specs.State.{State}
-use Rattle.states.proofs.Standing.{shown-at}
 use Rattle.states.proofs.Steps.{state-count-word, state-zero}
+use Rattle.states.proofs.Lowest.{state-used, lowest-leaf}
 use Rattle.states.proofs.Sounds.{sound-state}
 use Rattle.pointed.specs.Told.{upTold, told}
 use Rattle.pointed.proofs.Sounds.{sound-shown}
@@ -87,9 +86,10 @@ module _ {f : Frame} {words keys : List ℕ} {d : Option (Tree Held)} {root coun
     where
       go : (b : Bool) → ltb (lowestFree f words 5) (getD (f .caps) 5 0) ≡ b → Answers v full lacking (choose b (sitePlan f words keys tag (lowestFree f words 5) c) NoLeaf)
       go true e =
-          let q = free-leaf f words (ltb-true _ _ e) in
-          site-answers (lowestFree f words 5) (λ all. used-not (σ (leaf-place (lowestFree f words 5))) (all (lowestFree f words 5) (q .0)) (state-zero st (leaf-place (lowestFree f words 5)) (q .0) (q .1))) c no-record record-there
-      go false e = (is, λ n p. subst Used (shown-at st (leaf-place n)) (cell-used f words keys (leaf-place n) p (none-free f words (leaf-place n) p (ltb-false _ _ e))))
+          let n : ℕ = lowestFree f words 5 in
+          let low = lowest-leaf st n refl (ltb-true _ _ e) in
+          site-answers n (λ all. used-not (σ (leaf-place n)) (all n (low .pool)) (low .free)) c no-record record-there
+      go false e = (is, λ n p. state-used st (leaf-place n) p (none-free f words (leaf-place n) p (ltb-false _ _ e)))
 
 -- ── the record that takes it ──
 module _ {f : Frame} {words keys : List ℕ} {t : Tree Held} {ref₀ count : ℕ} (s : Shown f words keys (some t)) (st : State f words keys (store t []) (linksOf f words) ref₀ count) where
@@ -97,7 +97,7 @@ module _ {f : Frame} {words keys : List ℕ} {t : Tree Held} {ref₀ count : ℕ
   τ = store t []
 
   inners-full : (kind : ℕ) → NoneFree f words kind → InnersFull f τ kind
-  inners-full kind h k n l p = subst Used (shown-at st (inner-place k n)) (cell-used f words keys (inner-place k n) p (h k n l p))
+  inners-full kind h k n l p = state-used st (inner-place k n) p (h k n l p)
 
   -- a free record of the kind or a larger one is unused
   free-not : (kind k n : ℕ) → FreeAt f words kind k n → ¬ InnersFull f τ kind

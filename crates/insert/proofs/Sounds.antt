@@ -15,7 +15,7 @@ use Rattle.art.specs.Puts.{put}
 use Rattle.art.specs.Changes.{Plan, grow}
 use Rattle.art.specs.Deletes.{held}
 use Rattle.art.specs.Orders.{after}
-use Rattle.art.specs.Stores.{leaf-place, leaf-cell, unused, Store, write, root, store}
+use Rattle.art.specs.Stores.{leaf-place, leaf-cell, Store, write, root, store}
 use Rattle.art.specs.Chain.{Links, Linked, leaf-ref, before-ref, link-in, ref-of, leaves}
 use Rattle.art.specs.Points.{store-of}
 use Rattle.art.proofs.Changes.{grow-contents, grow-good}
@@ -24,15 +24,16 @@ use Rattle.art.proofs.Stores.{once-grow}
 use Rattle.art.proofs.Chains.{linked-before, linked-in}
 use Rattle.art.proofs.Leaves.{grow-linked}
 use Rattle.view.specs.Links.{linksOf}
-use Rattle.view.proofs.Pools.{free-leaf}
 use Rattle.whole.specs.Sound.{Rooted, Sound}
 use Rattle.reading.specs.Answers.{Bytes}
 use Rattle.reading.specs.Shown.{Shown}
 use Rattle.writes.specs.Leaf.{keyIn}
 use Rattle.writes.specs.declared.leaf_node.Gap.{Gap}
 use Rattle.states.specs.State.{State}
+use Rattle.states.specs.Lowest.{Lowest}
 use Rattle.states.proofs.Standing.{kept-end}
-use Rattle.states.proofs.Steps.{state-zero, state-root, state-count, state-leaf-in}
+use Rattle.states.proofs.Steps.{state-root, state-count, state-leaf-in}
+use Rattle.states.proofs.Lowest.{lowest-leaf}
 use Rattle.states.proofs.Sounds.{sound-state, state-sound}
 use Rattle.pointed.proofs.Sounds.{sound-shown}
 use Rattle.pointed.proofs.Neighbours.{numberOf, numbered}
@@ -56,11 +57,9 @@ module _ {f : Frame} {words keys tag : List ℕ} {site : Site} {n : ℕ} {gap : 
 
   -- ── the leaf and the count, after the tree's records ──
   module _ {d : Option (Tree Held)} {count : ℕ} (s : Shown f words keys d) (st : State f words keys (store-of d) (linksOf f words) (rootWord words) count) where
-    -- the free leaf is unused
-    leaf-free : store-of d (leaf-place n) ≡ unused
-    leaf-free =
-        let q = free-leaf f words (p .room) in
-        ap (λ (m : ℕ). store-of d (leaf-place m)) (sym (p .number)) ∙ state-zero st (leaf-place _) (q .0) (q .1)
+    -- the new leaf is the lowest free one
+    leaf-low : Lowest f (store-of d) leaf-place n
+    leaf-low = lowest-leaf st n (p .number) (p .room)
 
     new-state : (τ : Store Held) (ref : ℕ) → State f (hung f keys tag site (leaf-ref n) words) keys τ (linksOf f words) ref count → ((m : ℕ) → τ (leaf-place m) ≡ store-of d (leaf-place m))
         → State f (newWords f keys tag total site n gap words) (keyIn f n tag keys) (write τ (leaf-place n) (leaf-cell tag a)) (link-in (linksOf f words) n (gap .previous) (gap .next)) ref (countWord words + 1)
@@ -87,8 +86,18 @@ module _ {f : Frame} {words keys tag : List ℕ} {site : Site} {n : ℕ} {gap : 
         let made = subst (λ (σ : Store Held). State f (newWords f keys tag total site n gap words) (keyIn f n tag keys) σ (link-in (linksOf f words) n (gap .previous) (gap .next)) (h .ref) (countWord words + 1))
         (h .planted .makes a) (new-state s st (h .cells) (h .ref) (h .state) (h .planted .kept)) in
         let done = state-sound (some (grow t pl tag a)) made (grow-good t (s .good) pl tag a) (once-grow t pl [] tag a (s .once) (h .planted .fresh)) (h .planted .moves a) (tree-linked _ h)
-        (omega (arith, st .count-is, grow-count t (s .good) pl tag a (h .apart))) in
-        (made .frame, done .0, ap held (done .1) ∙ grow-contents t (s .good) pl tag a (h .apart), record { plan = pl; fresh = h .planted .fresh; chosen = h .chosen; tree-is = done .1 })
+        (omega (arith, st .count-is, grow-count t (s .good) pl tag a (h .apart))) in (
+          made .frame,
+          done .0,
+          ap held (done .1) ∙ grow-contents t (s .good) pl tag a (h .apart),
+          record {
+            plan = pl;
+            fresh = h .planted .fresh;
+            lowest = subst (Lowest f (store t []) leaf-place) (sym (h .planted .number)) (leaf-low s st);
+            chosen = h .chosen;
+            tree-is = done .1;
+          },
+        )
 
   -- ── the first tag ──
   module _ (s : Shown f words keys none) (st : State f words keys (store-of none) (linksOf f words) (rootWord words) 0) where
@@ -110,7 +119,7 @@ module _ {f : Frame} {words keys tag : List ℕ} {site : Site} {n : ℕ} {gap : 
     first-sound =
         let made = new-state s st (store-of none) (leaf-ref n) (first-hung site (p .planned)) (λ m. refl) in
         let done = state-sound (some (leaf n tag a)) made tt tt refl first-linked (omega (arith, st .count-is)) in
-        (made .frame, done .0, ap held (done .1), done .1)
+        (made .frame, done .0, ap held (done .1), (leaf-low s st, done .1))
 
   -- ── either ──
   block-sound : Bytes tag → Bytes keys → (d : Option (Tree Held)) → Shown f words keys d → State f words keys (store-of d) (linksOf f words) (rootWord words) (length (held d)) → Rooted (rootWord words) d
@@ -118,7 +127,7 @@ module _ {f : Frame} {words keys tag : List ℕ} {site : Site} {n : ℕ} {gap : 
   block-sound tag-bytes key-bytes none s st r = first-sound s st
   block-sound tag-bytes key-bytes (some t) s st r =
       tree-sound s st r
-      (hung-tree s (subst (λ (x : ℕ). State f words keys (store t []) (linksOf f words) x (length (contents t))) r st) tag tag-bytes key-bytes short n (new-pool s p) (leaf-free s st) site (p .planned))
+      (hung-tree s (subst (λ (x : ℕ). State f words keys (store t []) (linksOf f words) x (length (contents t))) r st) tag tag-bytes key-bytes short n (new-pool s p) (leaf-low s st .free) site (p .planned))
 
 module _ {words keys : List ℕ} (s : Sound words keys) (tag : List ℕ) (tag-bytes : Bytes tag) (key-bytes : Bytes keys) (short : length tag ≤ frame words .form .limit) (site : Site) (n : ℕ) (gap : Gap) (total : ℕ)
     (e : planOf (frame words) words keys tag ≡ New site n gap) where
@@ -133,6 +142,6 @@ module _ {words keys : List ℕ} (s : Sound words keys) (tag : List ℕ) (tag-by
   pub insert-sound : (s′ : Sound (newWords (frame words) keys tag total site n gap words) (keyIn (frame words) n tag keys)) × (held (s′ .tree) ≡ put tag (record { number = n; total = total }) (held (s .tree)))
   insert-sound = (made-sound .1, made-sound .2)
 
-  -- its tree is the one before, grown by a plan that takes the smallest kinds
+  -- its tree is the one before, grown by a plan that takes the smallest kinds and lowest numbers
   pub insert-grown : (s′ : Sound (newWords (frame words) keys tag total site n gap words) (keyIn (frame words) n tag keys)) × GrownFrom (frame words) (s .tree) tag (record { number = n; total = total }) (s′ .tree)
   insert-grown = (made-sound .1, made-sound .3)

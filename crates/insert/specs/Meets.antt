@@ -9,10 +9,11 @@ use Rattle.art.specs.Listings.{lookup}
 use Rattle.art.specs.Puts.{put, alter}
 use Rattle.art.specs.Deletes.{held}
 use Rattle.art.specs.Verdicts.{known, clash, free, judge}
+use Rattle.art.specs.Stores.{leaf-place}
 use Rattle.art.specs.Points.{store-of}
-use Rattle.pools.specs.Pool.{lowestFree}
 use Rattle.frames.specs.Frame.{frame}
 use Rattle.whole.specs.Sound.{Sound}
+use Rattle.states.specs.Lowest.{Lowest}
 use Rattle.insert.specs.declared.answer.Inserted.{Inserted}
 use Rattle.insert.specs.declared.answer.Inserted.the-variants as inserted
 use Rattle.insert.specs.Room.{LeavesFull, Lacking}
@@ -34,7 +35,9 @@ pub record Overwrites {words keys : List ℕ} (s : Sound words keys) (tag : Tag)
 pub record PutsIn {words keys : List ℕ} (s : Sound words keys) (tag : Tag) (total : ℕ) (o : Out) : Type 0 where
   pub answers : o .answer ≡ inserted.New
   pub sound : Sound (o .words) (o .keys)
-  pub holds : held (sound .tree) ≡ put tag (record { number = lowestFree (frame words) words 5; total = total }) (held (s .tree))
+  pub leaf : ℕ
+  pub lowest : Lowest (frame words) (store-of (s .tree)) leaf-place leaf
+  pub holds : held (sound .tree) ≡ put tag (record { number = leaf; total = total }) (held (s .tree))
 
 -- nothing is changed
 pub record Refuses (words keys : List ℕ) (r : Inserted) (o : Out) : Type 0 where

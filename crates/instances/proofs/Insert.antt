@@ -1,14 +1,19 @@
 -- Insert on sound blocks: a tag at each kind of site, one that is held, and each refusal, with the block that is left.
-use Prim.Native.Nat.{ℕ}
-use mathlib.Core.Path.{_≡_, refl, ap, _∙_}
+use Prim.Native.Nat.{ℕ, zero, suc}
+use mathlib.Core.Path.{_≡_, refl, ap, subst, _∙_}
+use mathlib.Core.Logic.{inl, inr}
 use mathlib.Core.List.{List, [], _∷_}
-use mathlib.Core.Option.{some}
+use mathlib.Core.Option.{Option, some}
 use native.Mathlib.Omega.{arith}
 use lib.ListN.{replicate}
 use Rattle.art.specs.Tags.{Tag}
 use Rattle.art.specs.Puts.{put, alter}
 use Rattle.art.specs.Verdicts.{Verdict, known, clash, free, judge}
-use Rattle.art.specs.Points.{store-of}
+use Rattle.art.specs.Trees.{Tree, leaf}
+use Rattle.art.specs.Stores.{leaf-place, inner-place, home-place, empty, store}
+use Rattle.art.specs.Points.{store-of, fork-place}
+use Rattle.art.proofs.Stores.{used-not}
+use Rattle.records.specs.View.{Held}
 use Rattle.art.specs.Deletes.{held}
 use Rattle.reading.specs.Answers.{Bytes}
 use Rattle.frames.specs.Frame.{frame}
@@ -17,6 +22,7 @@ use Rattle.whole.proofs.Samples.{two-words, two-keys, two-sound}
 use Rattle.points.specs.declared.insert_point.Up.the-variants.{Top}
 use Rattle.writes.specs.Leaf.{totalAt}
 use Rattle.writes.specs.declared.leaf_node.Gap.{Gap}
+use Rattle.states.specs.Lowest.{Lowest}
 use Rattle.pointed.proofs.Points.{tag-bytes}
 use Rattle.insert.specs.Plan.{planOf}
 use Rattle.insert.specs.Apply.{NewReady}
@@ -28,15 +34,15 @@ use Rattle.insert.specs.declared.answer.Inserted.the-variants as inserted
 use Rattle.insert.specs.Insert.{out}
 use Rattle.insert.specs.Room.{LeavesFull, Lacking, Answers}
 use Rattle.insert.specs.Meets.{newTotal, Inserts}
-use Rattle.insert.specs.Grown.{GrownFrom, AlteredFrom}
+use Rattle.insert.specs.Grown.{NextFree, Grown, GrownFrom, AlteredFrom}
 use Rattle.insert.proofs.Ready.{insert-ready}
 use Rattle.insert.proofs.Sounds.{insert-sound, insert-grown}
 use Rattle.insert.proofs.Overs.{over-sound, over-altered}
 use Rattle.insert.proofs.Refusals.{plan-answers, only-over, only-clash, only-full, only-lacking, only-new}
 use Rattle.insert.proofs.Inserts.{insert-meets}
 use Rattle.instances.specs.Opened.{opened}
-use Rattle.instances.specs.Blocks.{bare, spare, two, lone, room, three, full, wide, long, parted, A, B, C, D, E, AB, J1, J2, AX, holding, entry, Holds, gap}
-use Rattle.instances.proofs.Sounds.{bare-sound, spare-sound, lone-sound, room-sound, full-sound, long-sound, bare-holds, spare-holds, two-holds, lone-holds, room-holds, full-holds, long-holds}
+use Rattle.instances.specs.Blocks.{bare, spare, two, lone, room, three, full, wide, long, parted, A, B, C, D, E, AB, J1, J2, AX, holding, entry, pair, quadruple, long-tags, Holds, gap}
+use Rattle.instances.proofs.Sounds.{bare-sound, spare-sound, lone-sound, room-sound, full-sound, long-sound, bare-holds, spare-holds, two-holds, lone-holds, room-holds, full-holds, long-holds, bare-tree, room-tree, full-tree, long-tree}
 use Rattle.instances.proofs.Conditions.{two-full, lone-not-full, lone-lacks, room-not-full, room-not-lacks}
 
 -- ── a new tag at each kind of site: what its writes need is there, and they leave a sound block that holds it too ──
@@ -51,6 +57,13 @@ root-put =
     let z = insert-sound bare-sound A (tag-bytes A refl) (tag-bytes (bare .keys) refl) (omega arith) Root 0 (gap 0 0) 7 refl in
     (z .0, z .1 ∙ ap (put A (holding 0 7)) bare-holds)
 
+-- its leaf is the lowest
+root-tree : (s : Sound (spare .words) (spare .keys)) × (Lowest (frame (bare .words)) empty leaf-place 0 × (s .tree ≡ some (leaf 0 A (holding 0 7))))
+unfolding opened
+root-tree =
+    let z = insert-grown bare-sound A (tag-bytes A refl) (tag-bytes (bare .keys) refl) (omega arith) Root 0 (gap 0 0) 7 refl in
+    (z .0, subst (λ (d : Option (Tree Held)). GrownFrom (frame (bare .words)) d A (holding 0 7) (z .0 .tree)) bare-tree (z .1))
+
 -- a missing child in a record with room
 add-ready : NewReady (frame (room .words)) (room .words) (room .keys) C (Add 1 67) 2 (gap 13 0)
 unfolding opened
@@ -61,6 +74,17 @@ unfolding opened
 add-put =
     let z = insert-sound room-sound C (tag-bytes C refl) (tag-bytes (room .keys) refl) (omega arith) (Add 1 67) 2 (gap 13 0) 9 refl in
     (z .0, z .1 ∙ ap (put C (holding 2 9)) room-holds)
+
+-- the tree is the one before, grown: the record had room, and stays
+add-tree : (s : Sound (three .words) (three .keys)) × Grown (frame (room .words)) pair C (holding 2 9) (s .tree)
+unfolding opened
+add-tree =
+    let z = insert-grown room-sound C (tag-bytes C refl) (tag-bytes (room .keys) refl) (omega arith) (Add 1 67) 2 (gap 13 0) 9 refl in
+    (z .0, subst (λ (d : Option (Tree Held)). GrownFrom (frame (room .words)) d C (holding 2 9) (z .0 .tree)) room-tree (z .1))
+
+add-place : home-place (add-tree .1 .plan) 1 0 ≡ inner-place 1 0
+unfolding opened
+add-place = elim (add-tree .1 .chosen) [ inl h ↦ h .1 | inr h ↦ absurd (omega (arith, h .0)) ]
 
 -- a full record moves into the next kind
 grow-ready : NewReady (frame (full .words)) (full .words) (full .keys) E (Grow Top 1 2 69) 4 (gap 29 0)
@@ -73,10 +97,26 @@ grow-put =
     let z = insert-sound full-sound E (tag-bytes E refl) (tag-bytes (full .keys) refl) (omega arith) (Grow Top 1 2 69) 4 (gap 29 0) 5 refl in
     (z .0, z .1 ∙ ap (put E (holding 4 5)) full-holds)
 
--- the tree is the one before, grown: the record was full, and kind 2 is the smallest larger one
-grow-tree : (s : Sound (wide .words) (wide .keys)) × GrownFrom (frame (full .words)) (full-sound .tree) E (holding 4 5) (s .tree)
+-- the record was full, and takes the lowest free one of kind 2, the smallest larger one
+grow-tree : (s : Sound (wide .words) (wide .keys)) × Grown (frame (full .words)) quadruple E (holding 4 5) (s .tree)
 unfolding opened
-grow-tree = insert-grown full-sound E (tag-bytes E refl) (tag-bytes (full .keys) refl) (omega arith) (Grow Top 1 2 69) 4 (gap 29 0) 5 refl
+grow-tree =
+    let z = insert-grown full-sound E (tag-bytes E refl) (tag-bytes (full .keys) refl) (omega arith) (Grow Top 1 2 69) 4 (gap 29 0) 5 refl in
+    (z .0, subst (λ (d : Option (Tree Held)). GrownFrom (frame (full .words)) d E (holding 4 5) (z .0 .tree)) full-tree (z .1))
+
+grow-place : home-place (grow-tree .1 .plan) 1 0 ≡ inner-place 2 0
+unfolding opened
+grow-place = elim (grow-tree .1 .chosen) [ inl h ↦ absurd (omega (arith, h .0)) | inr h ↦ place _ _ (h .1) ]
+  where
+    number : (n : ℕ) → Lowest (frame (full .words)) (store quadruple []) (inner-place 2) n → n ≡ 0
+    number zero low = refl
+    number (suc n) low = absurd (low .lower 0 (omega arith))
+
+    place : (k n : ℕ) → NextFree (frame (full .words)) (store quadruple []) 2 k n → inner-place k n ≡ inner-place 2 0
+    place zero n h = absurd (omega (arith, h .0 .0))
+    place (suc zero) n h = absurd (omega (arith, h .0 .0))
+    place (suc (suc zero)) n h = ap (inner-place 2) (number n (h .1))
+    place (suc (suc (suc k))) n h = absurd (h .0 .1 2 0 (omega arith) (omega arith) refl)
 
 -- a branching against a leaf
 fork-ready : NewReady (frame (spare .words)) (spare .words) (spare .keys) B (Fork Top 5 1 5 0 0) 1 (gap 5 0)
@@ -99,6 +139,27 @@ unfolding opened
 part-put =
     let z = insert-sound long-sound AX (tag-bytes AX refl) (tag-bytes (long .keys) refl) (omega arith) (Fork Top 1 9 5 0 1) 2 (gap 13 0) 3 refl in
     (z .0, z .1 ∙ ap (put AX (holding 2 3)) long-holds)
+
+-- the branching takes record 1 of kind 1, since record 0 is in use
+part-tree : (s : Sound (parted .words) (parted .keys)) × Grown (frame (long .words)) long-tags AX (holding 2 3) (s .tree)
+unfolding opened
+part-tree =
+    let z = insert-grown long-sound AX (tag-bytes AX refl) (tag-bytes (long .keys) refl) (omega arith) (Fork Top 1 9 5 0 1) 2 (gap 13 0) 3 refl in
+    (z .0, subst (λ (d : Option (Tree Held)). GrownFrom (frame (long .words)) d AX (holding 2 3) (z .0 .tree)) long-tree (z .1))
+
+part-place : fork-place (part-tree .1 .plan) ≡ inner-place 1 1
+unfolding opened
+part-place = place _ _ (part-tree .1 .chosen)
+  where
+    number : (n : ℕ) → Lowest (frame (long .words)) (store long-tags []) (inner-place 1) n → n ≡ 1
+    number zero low = absurd (used-not (store long-tags [] (inner-place 1 0)) tt (low .free))
+    number (suc zero) low = refl
+    number (suc (suc n)) low = absurd (low .lower 1 (omega arith))
+
+    place : (k n : ℕ) → NextFree (frame (long .words)) (store long-tags []) 1 k n → inner-place k n ≡ inner-place 1 1
+    place zero n h = absurd (omega (arith, h .0 .0))
+    place (suc zero) n h = ap (inner-place 1) (number n (h .1))
+    place (suc (suc k)) n h = absurd (h .0 .1 1 1 (omega arith) (omega arith) refl)
 
 -- ── a held tag: its total alone changes ──
 over-put : (s : Sound (totalAt (frame two-words) 0 5 two-words) two-keys) × (held (s .tree) ≡ entry A 0 5 ∷ entry B 1 8 ∷ [])

@@ -27,7 +27,7 @@ use Rattle.pointed.proofs.Sounds.{sound-shown}
 use Rattle.demands.specs.Due.{Passed}
 use Rattle.demands.proofs.Reading.{sound-reads}
 use Rattle.instances.specs.Opened.{opened}
-use Rattle.instances.specs.Blocks.{bare, spare, two, lone, room, three, swapped, full, wide, cramped, long, parted, lend, A, B, C, D, E, J1, J2, AX, holding, entry, pair, triple, quintuple, long-tags, parted-tags}
+use Rattle.instances.specs.Blocks.{bare, spare, two, lone, room, three, swapped, full, wide, cramped, long, parted, lend, A, B, C, D, E, J1, J2, AX, holding, entry, pair, triple, quadruple, quintuple, long-tags, parted-tags}
 
 -- ── sound by computing ──
 pub bare-sound : Sound (bare .words) (bare .keys)
@@ -144,6 +144,10 @@ pub parted-holds : held (parted-sound .tree) ≡ entry J1 0 1 ∷ entry J2 1 2 �
 unfolding opened
 parted-holds = holds-is parted-sound
 
+pub bare-tree : bare-sound .tree ≡ none
+unfolding opened
+bare-tree = tree-is bare-sound
+
 pub spare-tree : spare-sound .tree ≡ some (leaf 0 A (holding 0 7))
 unfolding opened
 spare-tree = tree-is spare-sound
@@ -163,6 +167,10 @@ room-tree = tree-is room-sound
 pub three-tree : three-sound .tree ≡ some triple
 unfolding opened
 three-tree = tree-is three-sound
+
+pub full-tree : full-sound .tree ≡ some quadruple
+unfolding opened
+full-tree = tree-is full-sound
 
 pub wide-tree : wide-sound .tree ≡ some quintuple
 unfolding opened

@@ -217,7 +217,11 @@ pair = inner 1 0 [] (child 65 (leaf 0 [] (holding 0 7)) (child 66 (leaf 1 [] (ho
 abbrev pub triple : Tree Held
 triple = inner 1 0 [] (child 65 (leaf 0 [] (holding 0 7)) (child 66 (leaf 1 [] (holding 1 8)) (child 67 (leaf 2 [] (holding 2 9)) end)))
 
--- the tree of A to E below a record of kind 2
+-- the trees of A to D below a record of kind 1, and of A to E below one of kind 2
+abbrev pub quadruple : Tree Held
+quadruple =
+    inner 1 0 [] (child 65 (leaf 0 [] (holding 0 1)) (child 66 (leaf 1 [] (holding 1 2)) (child 67 (leaf 2 [] (holding 2 3)) (child 68 (leaf 3 [] (holding 3 4)) end))))
+
 abbrev pub quintuple : Tree Held
 quintuple =
     inner 2 0 [] (child 65 (leaf 0 [] (holding 0 1)) (child 66 (leaf 1 [] (holding 1 2)) (child 67 (leaf 2 [] (holding 2 3)) (child 68 (leaf 3 [] (holding 3 4)) (child 69 (leaf 4 [] (holding 4 5)) end)))))
