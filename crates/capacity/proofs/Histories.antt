@@ -27,7 +27,6 @@ use Rattle.insert.specs.Insert as insert-call
 use Rattle.insert.proofs.Refusals.{plan-answers}
 use Rattle.insert.proofs.Sounds.{insert-grown}
 use Rattle.insert.proofs.Overs.{over-altered}
-use Rattle.insert.proofs.Ready.{bytes-all}
 use Rattle.delete.specs.Delete as delete-call
 use Rattle.delete.proofs.Sounds.{delete-without}
 use Rattle.demands.specs.Calls.{Call, start, search, prefix-search, minimum, maximum, next-leaf, leaf-facts, leaf-tag, check, first-at-or-after, insert, delete, numberOf, run}
@@ -64,7 +63,7 @@ module _ (words keys : List ℕ) (tight : TightAfter words keys) (ample : AmpleF
   delete-tight : (scratch tag : List ℕ) → Bytes tag → let o = delete-call.deleteOf words keys scratch tag in TightAfter (o .words) (o .keys)
   delete-tight scratch tag bytes =
       delete-cases words keys tag (λ o. TightAfter (o .words) (o .keys)) (λ a r e. tight)
-      (λ r s cut n gap e. let z = delete-without s tag (bytes-all tag bytes) cut n gap e in tight-block (z .0) (left-tight s tag bytes tight ample (z .0 .tree) (z .1))) scratch
+      (λ r s cut n gap e. let z = delete-without s tag bytes cut n gap e in tight-block (z .0) (left-tight s tag bytes tight ample (z .0 .tree) (z .1))) scratch
 
 -- an accepted start: nothing is used, and the frame has the capacities
 started-ample : (words keys : List ℕ) (c : Caps) → startFits (formOf 1) c (length words) (length keys) ≡ true → AmpleCaps c

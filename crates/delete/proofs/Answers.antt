@@ -4,9 +4,7 @@ use mathlib.Core.Path.{_≡_, refl, sym, ap, subst, _∙_}
 use mathlib.Core.Logic.{_≢_, ite, if-pos, if-neg}
 use mathlib.Core.List.{List, [], _∷_}
 use mathlib.Core.Option.{Option, none, some}
-use mathlib.Core.Bool.{true}
 use native.Mathlib.Omega.{arith}
-use Rattle.lists.specs.Scan.{all, atMost}
 use lib.ListN.{length}
 use Rattle.frames.specs.Frame.{rootWord, frame}
 use Rattle.frames.specs.Place.{recordAt}
@@ -20,6 +18,7 @@ use Rattle.art.specs.Deletes.{held}
 use Rattle.art.specs.Stores.{leaf-place}
 use Rattle.art.specs.Points.{store-of}
 use Rattle.view.specs.Links.{linksOf}
+use Rattle.reading.specs.Answers.{Bytes}
 use Rattle.whole.specs.Marks.{placesIn}
 use Rattle.whole.specs.Check.{Answer, numberOf, checkOf}
 use Rattle.whole.specs.Sound.{Sound}
@@ -49,7 +48,7 @@ leave-none s (e ∷ l) h = go (tag-dec s (e .0)) (leave-none s l)
     go (yes i) ih = let found : some (e .1) ≡ none = sym (if-pos (fits-dec exact s (e .0)) i (some (e .1)) (lookup s l)) ∙ h in absurd (let z : _≡_ {A = ℕ} 0 1 = cc in omega arith)
     go (no i) ih = ap (λ (k : Listing Held). e ∷ k) (ih (sym (if-neg (fits-dec exact s (e .0)) i (some (e .1)) (lookup s l)) ∙ h))
 
-module _ {words keys : List ℕ} (s : Sound words keys) (tag : List ℕ) (bytes : all (atMost 255) tag ≡ true) where
+module _ {words keys : List ℕ} (s : Sound words keys) (tag : List ℕ) (bytes : Bytes tag) where
   abbrev theirs : Listing Held
   theirs = held (s .tree)
 

@@ -1,18 +1,13 @@
 -- The cases of a delete: of the plan carried out, and of the check's answer; and why a plan for a sound block is ready.
-use Prim.Native.Nat.{ℕ, _<_}
+use Prim.Native.Nat.{ℕ}
 use mathlib.Core.Path.{_≡_, sym, ap, subst, _∙_}
 use mathlib.Core.List.{List}
-use mathlib.Core.Bool.{true}
-use native.Mathlib.Omega.{arith}
-use lib.ListN.{getD}
-use borrow.Author.Tests.{le-leb}
-use Rattle.lists.specs.Scan.{all, atMost}
-use Rattle.lists.proofs.Tests.{all-by}
 use Rattle.frames.specs.Frame.{FrameOf, frame}
 use Rattle.frames.specs.Place.{recordAt}
 use Rattle.frames.specs.declared.frame.Frame.{Frame}
 use Rattle.records.specs.Own.{totalOf}
 use Rattle.art.specs.Stores.{leaf-place}
+use Rattle.reading.specs.Answers.{Bytes}
 use Rattle.whole.specs.Sound.{Sound}
 use Rattle.whole.specs.Check as check
 use Rattle.whole.specs.declared.check.Checked.{Checked}
@@ -30,20 +25,18 @@ use Rattle.delete.specs.declared.plan.Plan.the-variants.{Take, Missing, 
 use Rattle.delete.proofs.Ready.{delete-ready}
 
 -- ---- a plan for a sound block is ready
-bytes-low : (tag : List ℕ) → ((i : ℕ) → getD tag i 0 < 256) → all (atMost 255) tag ≡ true
-bytes-low tag h = all-by (atMost 255) tag (λ i l. le-leb (getD tag i 0) 255 (omega (arith, h i)))
-
-ready-by : {words keys : List ℕ} → Sound words keys → (tag : List ℕ) → all (atMost 255) tag ≡ true → (p : Plan) → planOf (frame words) words keys tag ≡ p
+ready-by : {words keys : List ℕ} → Sound words keys → (tag : List ℕ) → Bytes tag → (p : Plan) → planOf (frame words) words keys tag ≡ p
     → PlanReady (frame words) words p
 ready-by s tag b (Take cut n gap) e = delete-ready s tag b cut n gap e
 ready-by s tag b Missing e = tt
 ready-by s tag b Broken e = tt
 
-pub plan-ready : {f : Frame} {words keys : List ℕ} → FrameOf f words keys → Sound words keys → (tag : List ℕ) → ((i : ℕ) → getD tag i 0 < 256) → {p : Plan}
+-- every plan has what its writes need
+pub plan-ready : {f : Frame} {words keys : List ℕ} → FrameOf f words keys → Sound words keys → (tag : List ℕ) → Bytes tag → {p : Plan}
     → p ≡ planOf f words keys tag → PlanReady f words p
 plan-ready {f} {words} {keys} w s tag b {p} e =
     subst (λ (g : Frame). PlanReady g words p) (sym (w .read))
-    (ready-by s tag (bytes-low tag b) p (sym (e ∙ ap (λ (g : Frame). planOf g words keys tag) (w .read))))
+    (ready-by s tag b p (sym (e ∙ ap (λ (g : Frame). planOf g words keys tag) (w .read))))
 
 -- ---- the plan carried out
 module _ (f : Frame) (words keys scratch : List ℕ) where

@@ -1,18 +1,19 @@
 -- What a sound block gives a delete: it shows its tree, and the plan is made of what is there.
 use Prim.Native.Nat.{ℕ}
-use mathlib.Core.Path.{_≡_, sym, subst}
+use mathlib.Core.Path.{sym, subst}
 use mathlib.Core.List.{List}
 use mathlib.Core.Option.{Option, none, some}
-use mathlib.Core.Bool.{Bool, true}
+use mathlib.Core.Bool.{Bool}
 use borrow.Author.Tests.{eq-eqb}
 use lib.ListN.{length}
-use Rattle.lists.specs.Scan.{choose, all, atMost}
+use Rattle.lists.specs.Scan.{choose}
 use Rattle.frames.specs.Frame.{rootWord, frame}
 use Rattle.records.specs.View.{Held}
 use Rattle.art.specs.Trees.{Tree}
 use Rattle.art.specs.Deletes.{held}
 use Rattle.art.specs.Points.{store-of}
 use Rattle.view.specs.Links.{linksOf}
+use Rattle.reading.specs.Answers.{Bytes}
 use Rattle.reading.specs.Shown as shown
 use Rattle.whole.specs.Sound.{Rooted, Sound}
 use Rattle.points.specs.Point.{pointOf}
@@ -31,7 +32,7 @@ SoundFits words keys tag none plan.Missing = Unit {0}
 SoundFits words keys tag none plan.Broken = ⊥
 SoundFits words keys tag (some t) p = PlanFits (frame words) words keys tag t (linksOf (frame words) words) (length (held (some t))) p
 
-module _ {words keys : List ℕ} (tag : List ℕ) (bytes : all (atMost 255) tag ≡ true) where
+module _ {words keys : List ℕ} (tag : List ℕ) (bytes : Bytes tag) where
   fits-of : (d : Option (Tree Held)) → Rooted (rootWord words) d → State (frame words) words keys (store-of d) (linksOf (frame words) words) (rootWord words) (length (held d))
       → shown.Shown (frame words) words keys d → SoundFits words keys tag d (planOf (frame words) words keys tag)
   unfolding planOf

@@ -10,7 +10,7 @@ use borrow.Author.Tests.{leb-true, leb-false, le-leb, ltb-false, ne-eqb}
 use lib.ListN.{length, getD}
 use lib.Dec.{leb, ltb}
 use Rattle.states.proofs.OneCell.{used-pool}
-use Rattle.lists.specs.Scan.{choose, all, atMost}
+use Rattle.lists.specs.Scan.{choose}
 use Rattle.lists.proofs.Tests.{and-both}
 use Rattle.frames.specs.Kind.{childrenOf, markOf, before}
 use Rattle.frames.specs.Frame.{rootWord}
@@ -37,6 +37,7 @@ use Rattle.art.proofs.FitPoints.{point-fits}
 use Rattle.art.proofs.AlterPoints.{point-finds}
 use Rattle.pools.specs.Pool.{lowestFree}
 use Rattle.view.proofs.Pools.{lowest-free, lowest-used, none-free}
+use Rattle.reading.specs.Answers.{Bytes}
 use Rattle.reading.specs.Shown.{Shown}
 use Rattle.points.specs.Point.{pointOf}
 use Rattle.points.specs.declared.insert_point.Up.{Up}
@@ -55,7 +56,7 @@ use Rattle.delete.specs.declared.plan.Plan.{Plan}
 use Rattle.delete.specs.declared.plan.Plan.the-variants as plan
 use Rattle.delete.specs.Plan.{otherEntry, mergeCut, shrinkCut, cutUnder, cutOf, gapOf, pointPlan, planOf}
 use Rattle.delete.specs.Without.{Goes, stays, shrinks, crowded, Settles}
-use Rattle.pointed.proofs.Points.{tag-bytes, point-shown}
+use Rattle.pointed.proofs.Points.{point-shown}
 use Rattle.pointed.proofs.Aparts.{up-apart, upper-apart}
 use Rattle.pointed.proofs.Ups.{inner-here}
 use Rattle.delete.proofs.Unders.{Under, UpUnder, PointUnder, point-under}
@@ -225,11 +226,11 @@ module _ {f : Frame} {words keys : List ℕ} {links : Links} {rootRef size : ℕ
   point-plan (Fork up ref leaf d c) e = sym finds ∙ ap (art.point-held σ) (sym e)
   point-plan Broken e = subst (art.PointFits σ tag) (sym e) fits
 
-  pub plan-fits : Shown f words keys (some t) → all (atMost 255) tag ≡ true → PlanFits f words keys tag t links size (planOf f words keys tag)
+  pub plan-fits : Shown f words keys (some t) → Bytes tag → PlanFits f words keys tag t links size (planOf f words keys tag)
   unfolding planOf
   plan-fits shown bytes =
       let there : told (pointOf f words keys tag (rootWord words)) ≡ pt =
-      point-shown shown tag (tag-bytes tag bytes) (suc (height t)) deep ∙ ap (λ (τ : Store Held). art.point (suc (height t)) τ (root t) tag) (s .cells) in
+      point-shown shown tag bytes (suc (height t)) deep ∙ ap (λ (τ : Store Held). art.point (suc (height t)) τ (root t) tag) (s .cells) in
       let some-root : rootWord words ≡ 0 → ⊥ = λ e. omega (arith, ref-some (s .frame) (root t) (used-pool s (root t) (own t [])), e, s .root-is, er) in
       let here = pointOf f words keys tag (rootWord words) in
       subst (λ (b : Bool). PlanFits f words keys tag t links size (choose b plan.Missing (pointPlan f words here))) (sym (ne-eqb (rootWord words) 0 some-root)) (point-plan here there)

@@ -7,7 +7,6 @@ use mathlib.Core.Bool.{true}
 use native.Mathlib.Omega.{arith}
 use lib.ListN.{length}
 use Rattle.states.proofs.OneCell.{used-pool}
-use Rattle.lists.specs.Scan.{all, atMost}
 use Rattle.frames.specs.Frame.{rootWord, frame}
 use Rattle.frames.specs.Place.{inPool}
 use Rattle.frames.specs.declared.frame.Frame.{Frame}
@@ -21,6 +20,7 @@ use Rattle.pools.specs.Link.{LeafOrEnd}
 use Rattle.view.specs.Links.{linksOf}
 use Rattle.view.proofs.Links.{used-leaf}
 use Rattle.view.proofs.Chains.{link-in-pool}
+use Rattle.reading.specs.Answers.{Bytes}
 use Rattle.reading.specs.Shown.{Shown}
 use Rattle.whole.specs.Sound.{Sound}
 use Rattle.pointed.proofs.Sounds.{sound-shown}
@@ -60,7 +60,7 @@ module _ (words keys tag : List ℕ) (cut : Cut) (n : ℕ) (gap : Gap) where
         counted = omega (arith, s .count-is, cut-count t (shown .good) stay tag (o .held) (o .found));
       }
 
-pub delete-ready : {words keys : List ℕ} → Sound words keys → (tag : List ℕ) → all (atMost 255) tag ≡ true → (cut : Cut) (n : ℕ) (gap : Gap) → planOf (frame words) words keys tag ≡ Take cut n gap
+pub delete-ready : {words keys : List ℕ} → Sound words keys → (tag : List ℕ) → Bytes tag → (cut : Cut) (n : ℕ) (gap : Gap) → planOf (frame words) words keys tag ≡ Take cut n gap
     → TakeReady (frame words) words cut n gap
 delete-ready {words} {keys} s tag bytes cut n gap e =
     ready-of words keys tag cut n gap (s .tree) (sound-shown s) (sound-state s) (subst (SoundFits words keys tag (s .tree)) e (sound-fits tag bytes s))

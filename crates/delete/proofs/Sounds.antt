@@ -7,7 +7,6 @@ use mathlib.Core.Bool.{true}
 use native.Mathlib.Omega.{arith}
 use lib.ListN.{length}
 use Rattle.states.proofs.OneCell.{used-pool}
-use Rattle.lists.specs.Scan.{all, atMost}
 use Rattle.frames.specs.Frame.{FrameOf, rootWord, countWord, frame}
 use Rattle.frames.specs.Place.{inPool}
 use Rattle.frames.specs.declared.frame.Frame.{Frame}
@@ -27,6 +26,7 @@ use Rattle.art.proofs.Counts.{cut-count}
 use Rattle.art.proofs.Calls.{call-once}
 use Rattle.pools.specs.Link.{setTrailer}
 use Rattle.view.specs.Links.{UsedOrEnd, linksOf}
+use Rattle.reading.specs.Answers.{Bytes}
 use Rattle.reading.specs.Shown.{Shown}
 use Rattle.whole.specs.Sound.{Rooted, Sound}
 use Rattle.pointed.proofs.Sounds.{sound-shown}
@@ -136,7 +136,7 @@ module _ (words keys tag : List ℕ) (cut : Cut) (n : ℕ) (gap : Gap) (t : Tree
     record { home = home; roomy = o .cut-fits .roomy; settles = subst (SettlesAt f σ home) (sym (o .at)) (o .cut-fits .settles); tree-is = gone-sound .1 },
   )
 
-module _ {words keys : List ℕ} (s : Sound words keys) (tag : List ℕ) (bytes : all (atMost 255) tag ≡ true) (cut : Cut) (n : ℕ) (gap : Gap) (e : planOf (frame words) words keys tag ≡ Take cut n gap) where
+module _ {words keys : List ℕ} (s : Sound words keys) (tag : List ℕ) (bytes : Bytes tag) (cut : Cut) (n : ℕ) (gap : Gap) (e : planOf (frame words) words keys tag ≡ Take cut n gap) where
   abbrev now : List ℕ
   now = goneWords (frame words) cut n gap words
 

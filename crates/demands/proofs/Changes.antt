@@ -23,7 +23,6 @@ use Rattle.insert.specs.Apply.{newWords}
 use Rattle.insert.specs.declared.plan.Site.{Site}
 use Rattle.insert.specs.declared.plan.Plan.the-variants as new
 use Rattle.insert.proofs.Inserts.{one-form}
-use Rattle.insert.proofs.Ready.{bytes-all}
 use Rattle.insert.proofs.Sounds as insert-sounds
 use Rattle.insert.proofs.Overs as overs
 use Rattle.insert.specs.Meets.{newTotal}
@@ -63,10 +62,10 @@ module _ {words keys : List ℕ} (s : Sound words keys) (tag : List ℕ) (bytes 
   -- ── a tag that leaves ──
   module _ {cut : Cut} {n : ℕ} {gap : Gap} (plan : delete-plan.planOf (frame words) words keys tag ≡ gone.Take cut n gap) where
     pub delete-held : (a : Held) × (lookup tag (held (s .tree)) ≡ some a) × (a .total ≡ totalOf (recordAt (frame words) words (leaf-place n)))
-    delete-held = let h = delete-answers.out-held s tag (bytes-all tag bytes) cut n gap plan in (h .0, h .1, h .3)
+    delete-held = let h = delete-answers.out-held s tag bytes cut n gap plan in (h .0, h .1, h .3)
 
     pub delete-sound : (s′ : Sound (goneWords (frame words) cut n gap words) (keyOut (frame words) n keys)) × (held (s′ .tree) ≡ leave tag (held (s .tree)))
-    delete-sound = delete-sounds.delete-sound s tag (bytes-all tag bytes) cut n gap plan
+    delete-sound = delete-sounds.delete-sound s tag bytes cut n gap plan
 
     pub delete-frame : frame (goneWords (frame words) cut n gap words) ≡ frame words
-    delete-frame = sym (delete-sounds.delete-fits s tag (bytes-all tag bytes) cut n gap plan .read)
+    delete-frame = sym (delete-sounds.delete-fits s tag bytes cut n gap plan .read)

@@ -52,7 +52,6 @@ use Rattle.insert.specs.declared.answer.Inserted.{Inserted}
 use Rattle.insert.specs.declared.plan.Plan.{Plan}
 use Rattle.insert.specs.declared.plan.Plan.the-variants as new
 use Rattle.insert.proofs.Afters.{after-shown}
-use Rattle.insert.proofs.Ready.{bytes-all}
 use Rattle.insert.specs.Room as room
 use Rattle.insert.proofs.Refusals as refusals
 use Rattle.delete.specs.Answer as delete-answer
@@ -166,8 +165,8 @@ module _ (s : Slices) (t : Tag) (bytes : Bytes t) (p : Passed s) where
     where
       go : (q : delete-plans.Plan) → delete-plan.planOf (frame (s .words)) (s .words) (s .keys) t ≡ q → delete-answer.numberOf (delete-call.deleteOf (s .words) (s .keys) (s .scratch) t .answer) ≡ 0
       go (gone.Take cut n gap) i = delete-number (gone.Take cut n gap) i
-      go gone.Missing i = let z : none ≡ some h = sym (delete-answers.missing-held (p .sound) t (bytes-all t bytes) i) ∙ e in let y : _≡_ {A = ℕ} 0 1 = cc in absurd (omega arith)
-      go gone.Broken i = absurd (delete-answers.never-broken (p .sound) t (bytes-all t bytes) i)
+      go gone.Missing i = let z : none ≡ some h = sym (delete-answers.missing-held (p .sound) t bytes i) ∙ e in let y : _≡_ {A = ℕ} 0 1 = cc in absurd (omega arith)
+      go gone.Broken i = absurd (delete-answers.never-broken (p .sound) t bytes i)
 
 -- ── each row's number is given where its condition holds ──
 module _ (s : Slices) (t : Tag) (total : ℕ) (fits : length t ≤ formOf 1 .limit) (p : Passed s) (bytes : Bytes t) where
@@ -253,7 +252,7 @@ due-number b (due.insert-new {t} {total} {s} l p e a k) = ap some (new-number s 
 due-number b (due.delete-unframed {t} {s} e) = ap (λ (a : Deleted). some (delete-answer.numberOf a)) (delete-by s t checked.Damaged (check-unframed s e))
 due-number b (due.delete-short {t} {s} h) = ap (λ (a : Deleted). some (delete-answer.numberOf a)) (delete-by s t checked.ShortScratch (check-short s h))
 due-number b (due.delete-unsound {t} {s} h) = ap (λ (a : Deleted). some (delete-answer.numberOf a)) (delete-by s t checked.Damaged (check-unsound s h))
-due-number b (due.delete-missing {t} {s} p e) = ap some (delete-number s t b p gone.Missing (delete-answers.held-missing (p .sound) t (bytes-all t b) e))
+due-number b (due.delete-missing {t} {s} p e) = ap some (delete-number s t b p gone.Missing (delete-answers.held-missing (p .sound) t b e))
 due-number b (due.delete-held {t} {s} p h e) = ap some (delete-done s t b p h e)
 
 -- ── and there is a row for every call that gives a number ──

@@ -102,6 +102,7 @@ module _ {words keys : List ℕ} (w : FrameOf (frame words) words keys) (s : Sou
   ready-by NoRecord e = tt
   ready-by Broken e = tt
 
+-- every plan has what its writes need
 pub plan-ready : {f : Frame} {words keys : List ℕ} → FrameOf f words keys → Sound words keys → (tag : List ℕ) → Bytes tag → Bytes keys
     → length tag ≤ formOf 1 .limit → {p : Plan} → p ≡ planOf f words keys tag → call.PlanReady f words keys tag p
 plan-ready {f} {words} {keys} w s tag b k l {p} e =

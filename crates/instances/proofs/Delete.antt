@@ -21,13 +21,15 @@ use Rattle.whole.proofs.Samples.{two-words, two-keys, two-sound}
 use Rattle.points.specs.declared.insert_point.Up.the-variants.{Top}
 use Rattle.view.proofs.Apart.{number-few}
 use Rattle.states.specs.Lowest.{Lowest}
+use Rattle.pointed.proofs.Points.{tag-bytes}
 use Rattle.delete.specs.Plan.{planOf}
 use Rattle.delete.specs.Apply.{TakeReady}
 use Rattle.delete.specs.Delete.{out}
 use Rattle.delete.specs.declared.plan.Cut.the-variants.{Root, Stay, Shrink, Merge}
-use Rattle.delete.specs.declared.plan.Plan.the-variants.{Missing, Broken}
+use Rattle.delete.specs.declared.plan.Plan.the-variants.{Take, Missing, Broken}
 use Rattle.delete.specs.declared.answer.Deleted.the-variants as deleted
 use Rattle.delete.proofs.Ready.{delete-ready}
+use Rattle.delete.proofs.Calls.{plan-ready}
 use Rattle.delete.proofs.Sounds.{delete-sound, delete-without}
 use Rattle.delete.specs.Meets.{Deletes}
 use Rattle.delete.specs.Without.{Goes, stays, shrinks, crowded, Without, WithoutFrom}
@@ -40,30 +42,30 @@ use Rattle.instances.proofs.Sounds.{spare-sound, three-sound, wide-soun
 -- the last tag of all
 root-ready : TakeReady (frame (spare .words)) (spare .words) Root 0 (gap 0 0)
 unfolding opened
-root-ready = delete-ready spare-sound A refl Root 0 (gap 0 0) refl
+root-ready = delete-ready spare-sound A (tag-bytes A refl) Root 0 (gap 0 0) refl
 
 root-out : Holds bare []
 unfolding opened
 root-out =
-    let z = delete-sound spare-sound A refl Root 0 (gap 0 0) refl in
+    let z = delete-sound spare-sound A (tag-bytes A refl) Root 0 (gap 0 0) refl in
     (z .0, z .1 ∙ ap (leave A) spare-holds)
 
 -- the record stays
 stay-ready : TakeReady (frame (three .words)) (three .words) (Stay 1 67) 2 (gap 13 0)
 unfolding opened
-stay-ready = delete-ready three-sound C refl (Stay 1 67) 2 (gap 13 0) refl
+stay-ready = delete-ready three-sound C (tag-bytes C refl) (Stay 1 67) 2 (gap 13 0) refl
 
 stay-out : Holds room (entry A 0 7 ∷ entry B 1 8 ∷ [])
 unfolding opened
 stay-out =
-    let z = delete-sound three-sound C refl (Stay 1 67) 2 (gap 13 0) refl in
+    let z = delete-sound three-sound C (tag-bytes C refl) (Stay 1 67) 2 (gap 13 0) refl in
     (z .0, z .1 ∙ ap (leave C) three-holds)
 
 -- the tree is the one before without the tag, and the record is above its mark
 stay-tree : (s : Sound (room .words) (room .keys)) × Without (frame (three .words)) triple C (s .tree)
 unfolding opened
 stay-tree =
-    let z = delete-without three-sound C refl (Stay 1 67) 2 (gap 13 0) refl in
+    let z = delete-without three-sound C (tag-bytes C refl) (Stay 1 67) 2 (gap 13 0) refl in
     (z .0, subst (λ (d : Option (Tree Held)). WithoutFrom (frame (three .words)) d C (z .0 .tree)) three-tree (z .1))
 
 stay-place : stay-tree .1 .home 1 0 2 ≡ (1, 0)
@@ -78,19 +80,19 @@ stay-place = go (stay-tree .1 .settles (omega arith))
 -- it moves into the smaller kind
 shrink-ready : TakeReady (frame (wide .words)) (wide .words) (Shrink Top 2 1 69) 4 (gap 29 0)
 unfolding opened
-shrink-ready = delete-ready wide-sound E refl (Shrink Top 2 1 69) 4 (gap 29 0) refl
+shrink-ready = delete-ready wide-sound E (tag-bytes E refl) (Shrink Top 2 1 69) 4 (gap 29 0) refl
 
 shrink-out : Holds full (entry A 0 1 ∷ entry B 1 2 ∷ entry C 2 3 ∷ entry D 3 4 ∷ [])
 unfolding opened
 shrink-out =
-    let z = delete-sound wide-sound E refl (Shrink Top 2 1 69) 4 (gap 29 0) refl in
+    let z = delete-sound wide-sound E (tag-bytes E refl) (Shrink Top 2 1 69) 4 (gap 29 0) refl in
     (z .0, z .1 ∙ ap (leave E) wide-holds)
 
 -- the record came to its mark, and takes the lowest free record of kind 1
 shrink-tree : (s : Sound (full .words) (full .keys)) × Without (frame (wide .words)) quintuple E (s .tree)
 unfolding opened
 shrink-tree =
-    let z = delete-without wide-sound E refl (Shrink Top 2 1 69) 4 (gap 29 0) refl in
+    let z = delete-without wide-sound E (tag-bytes E refl) (Shrink Top 2 1 69) 4 (gap 29 0) refl in
     (z .0, subst (λ (d : Option (Tree Held)). WithoutFrom (frame (wide .words)) d E (z .0 .tree)) wide-tree (z .1))
 
 shrink-place : shrink-tree .1 .home 2 0 4 ≡ (1, 0)
@@ -114,7 +116,7 @@ shrink-place = go (shrink-tree .1 .settles (omega arith))
 crowded-tree : (s : Sound (cramped-less .words) (cramped-less .keys)) × Without (frame (cramped .words)) quintuple E (s .tree)
 unfolding opened
 crowded-tree =
-    let z = delete-without cramped-sound E refl (Stay 2 69) 4 (gap 29 0) refl in
+    let z = delete-without cramped-sound E (tag-bytes E refl) (Stay 2 69) 4 (gap 29 0) refl in
     (z .0, subst (λ (d : Option (Tree Held)). WithoutFrom (frame (cramped .words)) d E (z .0 .tree)) cramped-tree (z .1))
 
 crowded-place : crowded-tree .1 .home 2 0 4 ≡ (2, 0)
@@ -133,39 +135,44 @@ crowded-place = go (crowded-tree .1 .settles (omega arith))
 -- the one child left stands in its place
 merge-ready : TakeReady (frame (two .words)) (two .words) (Merge Top 1 5 65) 1 (gap 5 0)
 unfolding opened
-merge-ready = delete-ready two-sound B refl (Merge Top 1 5 65) 1 (gap 5 0) refl
+merge-ready = delete-ready two-sound B (tag-bytes B refl) (Merge Top 1 5 65) 1 (gap 5 0) refl
 
 merge-out : Holds spare (entry A 0 7 ∷ [])
 unfolding opened
 merge-out =
-    let z = delete-sound two-sound B refl (Merge Top 1 5 65) 1 (gap 5 0) refl in
+    let z = delete-sound two-sound B (tag-bytes B refl) (Merge Top 1 5 65) 1 (gap 5 0) refl in
     (z .0, z .1 ∙ ap (leave B) two-holds)
+
+-- as every plan has what it needs
+every-ready : TakeReady (frame (two .words)) (two .words) (Merge Top 1 5 65) 1 (gap 5 0)
+unfolding opened
+every-ready = plan-ready (record { read = refl; fits = two-sound .fits }) two-sound B (tag-bytes B refl) {p = Take (Merge Top 1 5 65) 1 (gap 5 0)} refl
 
 -- or it takes over the run of the record above, with the byte to it
 join-ready : TakeReady (frame (parted .words)) (parted .words) (Merge Top 9 1 66) 2 (gap 13 0)
 unfolding opened
-join-ready = delete-ready parted-sound AX refl (Merge Top 9 1 66) 2 (gap 13 0) refl
+join-ready = delete-ready parted-sound AX (tag-bytes AX refl) (Merge Top 9 1 66) 2 (gap 13 0) refl
 
 join-out : Holds long (entry J1 0 1 ∷ entry J2 1 2 ∷ [])
 unfolding opened
 join-out =
-    let z = delete-sound parted-sound AX refl (Merge Top 9 1 66) 2 (gap 13 0) refl in
+    let z = delete-sound parted-sound AX (tag-bytes AX refl) (Merge Top 9 1 66) 2 (gap 13 0) refl in
     (z .0, z .1 ∙ ap (leave AX) parted-holds)
 
 -- ── a tag that is not held ──
 not-held : lookup C (held (two-sound .tree)) ≡ none
 unfolding opened
-not-held = missing-held two-sound C refl refl
+not-held = missing-held two-sound C (tag-bytes C refl) refl
 
 not-planned : planOf (frame two-words) two-words two-keys C ≡ Missing
-not-planned = held-missing two-sound C refl not-held
+not-planned = held-missing two-sound C (tag-bytes C refl) not-held
 
 not-broken : planOf (frame two-words) two-words two-keys C ≢ Broken
-not-broken = never-broken two-sound C refl
+not-broken = never-broken two-sound C (tag-bytes C refl)
 
 -- ── the whole call: B goes, with its total ──
 B-gone : Deletes B (replicate 3 0) (entry A 0 7 ∷ entry B 1 8 ∷ []) (out (deleted.Gone 8) (spare .words) (spare .keys) (replicate 3 0))
 unfolding opened
 B-gone =
     subst (λ (l : Listing Held). Deletes B (replicate 3 0) l (out (deleted.Gone 8) (spare .words) (spare .keys) (replicate 3 0))) two-holds
-    (call-answers two-sound B refl (replicate 3 1) (omega arith))
+    (call-answers two-sound B (tag-bytes B refl) (replicate 3 1) (omega arith))

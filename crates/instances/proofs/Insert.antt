@@ -4,6 +4,7 @@ use mathlib.Core.Path.{_≡_, refl, ap, subst, _∙_}
 use mathlib.Core.Logic.{inl, inr}
 use mathlib.Core.List.{List, [], _∷_}
 use mathlib.Core.Option.{Option, some}
+use mathlib.Core.Bool.{true}
 use native.Mathlib.Omega.{arith}
 use lib.ListN.{replicate}
 use Rattle.art.specs.Tags.{Tag}
@@ -17,6 +18,7 @@ use Rattle.records.specs.View.{Held}
 use Rattle.art.specs.Deletes.{held}
 use Rattle.reading.specs.Answers.{Bytes}
 use Rattle.frames.specs.Frame.{frame}
+use Rattle.frames.specs.Place.{inPool}
 use Rattle.whole.specs.Sound.{Sound}
 use Rattle.whole.proofs.Samples.{two-words, two-keys, two-sound}
 use Rattle.points.specs.declared.insert_point.Up.the-variants.{Top}
@@ -36,6 +38,7 @@ use Rattle.insert.specs.Room.{LeavesFull, Lacking, Answers}
 use Rattle.insert.specs.Meets.{newTotal, Inserts}
 use Rattle.insert.specs.Grown.{NextFree, Grown, GrownFrom, AlteredFrom}
 use Rattle.insert.proofs.Ready.{insert-ready}
+use Rattle.insert.proofs.Calls.{plan-ready}
 use Rattle.insert.proofs.Sounds.{insert-sound, insert-grown}
 use Rattle.insert.proofs.Overs.{over-sound, over-altered}
 use Rattle.insert.proofs.Refusals.{plan-answers, only-over, only-clash, only-full, only-lacking, only-new}
@@ -161,7 +164,11 @@ part-place = place _ _ (part-tree .1 .chosen)
     place (suc zero) n h = ap (inner-place 1) (number n (h .1))
     place (suc (suc k)) n h = absurd (h .0 .1 1 1 (omega arith) (omega arith) refl)
 
--- ── a held tag: its total alone changes ──
+-- ── a held tag: its leaf is in the pool, as every plan has what it needs, and its total alone changes ──
+over-ready : inPool (frame two-words) (leaf-place 0) ≡ true
+unfolding opened
+over-ready = plan-ready (record { read = refl; fits = two-sound .fits }) two-sound A (tag-bytes A refl) (tag-bytes two-keys refl) (omega arith) {p = Over 5} refl
+
 over-put : (s : Sound (totalAt (frame two-words) 0 5 two-words) two-keys) × (held (s .tree) ≡ entry A 0 5 ∷ entry B 1 8 ∷ [])
 unfolding opened
 over-put =
