@@ -20,7 +20,8 @@ use Rattle.demands.specs.Calls.{start}
 use Rattle.demands.specs.Histories.{Block, Turn, lent, next, after-all, changeOf, totals, told, told-all, counted, counted-all, AllBytes}
 use Rattle.demands.specs.Drawn.{plain-of, drawing}
 use Rattle.demands.specs.Story.{Story}
-use Rattle.demands.proofs.Reading.{sound-reads, sound-listed}
+use Rattle.demands.proofs.Reading.{sound-reads}
+use Rattle.demands.proofs.Listed.{sound-listed}
 use Rattle.demands.proofs.Totals.{totals-length, plain-held, plain-sane}
 use Rattle.demands.proofs.Steps.{step-sound, step-counts, start-sound}
 use Rattle.demands.proofs.KeyBytes.{start-bytes, step-bytes}

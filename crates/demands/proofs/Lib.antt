@@ -14,4 +14,6 @@ pub mod Swaps
 pub mod Corollaries
 pub mod Tested
 pub mod Ways
+pub mod Inserted
 pub mod Numbers
+pub mod Listed

@@ -18,7 +18,7 @@ use Rattle.records.specs.View.{Held}
 use Rattle.art.specs.Tags.{Tag}
 use Rattle.art.specs.Listings.{lookup}
 use Rattle.art.specs.Orders.{after}
-use Rattle.art.specs.Verdicts.{Verdict, known, clash, free, judge}
+use Rattle.art.specs.Verdicts.{known, judge}
 use Rattle.art.specs.Stores.{Place, leaf-place, inner-place}
 use Rattle.art.specs.Points.{store-of}
 use Rattle.art.proofs.ReadBack.{some-inj}
@@ -65,9 +65,11 @@ use Rattle.demands.specs.Calls.{Call, start, search, prefix-search, mini
 use Rattle.demands.specs.Histories.{CallBytes}
 use Rattle.demands.specs.Due as due
 use Rattle.demands.specs.Due.{Unframed, Fitting, Short, Unsound, Passed, holds, InUse, obeys, nextRef, namesLeaf, nextNamed, Due}
+use Rattle.demands.proofs.Changes.{over-held}
+use Rattle.demands.proofs.Inserted.{inserts-listed}
 use Rattle.demands.proofs.Reading.{sound-reads}
 use Rattle.demands.proofs.Ways.{meets-number, met, ends-number, ended}
-use Rattle.demands.proofs.Tested.{Tests, unframed, short, unsound, passed, tested, check-unframed, check-short, check-unsound, check-passed, insert-too-long, insert-by, insert-passed, delete-by, delete-passed}
+use Rattle.demands.proofs.Tested.{Tests, unframed, short, unsound, passed, tested, check-unframed, check-short, check-unsound, check-passed, insert-too-long, insert-by, delete-by, delete-passed}
 
 -- ── where the frame does not fit ──
 unframed-is : {A : Type 0} (s : Slices) → Unframed s → (given : Frame → A) (refused : A) → withFrame (s .words) (s .keys) given refused ≡ refused
@@ -141,17 +143,6 @@ after-by s t c e = ap (afterCheck (s .words) (s .keys) t) e
 pub after-passed : (s : Slices) (t : Tag) (p : Passed s) → afterOf (s .words) (s .keys) (s .scratch) t .result ≡ afterIs (after t (holds (p .sound)))
 after-passed s t p = after-by s t checked.Sound (check-passed s p) ∙ after-shown (sound-shown (p .sound)) t
 
--- ── insert, by its plan ──
-module _ (s : Slices) (t : Tag) (total : ℕ) (fits : length t ≤ formOf 1 .limit) (p : Passed s) where
-  abbrev plan : Plan
-  plan = insert-plan.planOf (frame (s .words)) (s .words) (s .keys) t
-
-  planned-number : (q : Plan) → plan ≡ q
-      → insert-answer.numberOf (insert-call.insertOf (s .words) (s .keys) (s .scratch) t total .answer) ≡ insert-answer.numberOf (insert-call.planned (frame (s .words)) (s .words) (s .keys) (checkOf (s .words) (s .keys) (s .scratch) .scratch) t total q .answer)
-  planned-number q e =
-      ap insert-answer.numberOf (insert-passed s t total fits p)
-      ∙ ap (λ (q : Plan). insert-answer.numberOf (insert-call.planned (frame (s .words)) (s .words) (s .keys) (checkOf (s .words) (s .keys) (s .scratch) .scratch) t total q .answer)) e
-
 -- ── delete, by its plan ──
 module _ (s : Slices) (t : Tag) (bytes : Bytes t) (p : Passed s) where
   delete-number : (q : delete-plans.Plan) → delete-plan.planOf (frame (s .words)) (s .words) (s .keys) t ≡ q
@@ -169,36 +160,15 @@ module _ (s : Slices) (t : Tag) (bytes : Bytes t) (p : Passed s) where
       go gone.Broken i = absurd (delete-answers.never-broken (p .sound) t bytes i)
 
 -- ── each row's number is given where its condition holds ──
-module _ (s : Slices) (t : Tag) (total : ℕ) (fits : length t ≤ formOf 1 .limit) (p : Passed s) (bytes : Bytes t) where
-  abbrev verdict : Verdict
-  verdict = judge t (holds (p .sound))
-
-  abbrev full : Type 0
-  full = room.LeavesFull (frame (s .words)) (store-of (p .sound .tree))
-
-  abbrev lacking : Type 0
-  lacking = room.Lacking (frame (s .words)) (p .sound .tree) t
-
-  answers : room.Answers verdict full lacking (plan s t total fits p)
-  answers = refusals.plan-answers (p .sound) t bytes
-
-  abbrev given : ℕ
-  given = insert-answer.numberOf (insert-call.insertOf (s .words) (s .keys) (s .scratch) t total .answer)
-
-  over-number : verdict ≡ known → given ≡ 0
-  over-number e = let r = refusals.only-over verdict full lacking (plan s t total fits p) answers e in planned-number s t total fits p (new.Over (r .0)) (r .1)
-
-  clash-number : verdict ≡ clash → given ≡ 3
-  clash-number e = planned-number s t total fits p new.Clash (refusals.only-clash verdict full lacking (plan s t total fits p) answers e)
-
-  full-number : verdict ≡ free → full → given ≡ 4
-  full-number e a = planned-number s t total fits p new.NoLeaf (refusals.only-full verdict full lacking (plan s t total fits p) answers e a)
-
-  lacking-number : verdict ≡ free → ¬ full → lacking → given ≡ 5
-  lacking-number e a b = planned-number s t total fits p new.NoRecord (refusals.only-lacking verdict full lacking (plan s t total fits p) answers e a b)
-
-  new-number : verdict ≡ free → ¬ full → ¬ lacking → given ≡ 0
-  new-number e a b = let r = refusals.only-new verdict full lacking (plan s t total fits p) answers e a b in planned-number s t total fits p (new.New (r .0) (r .1) (r .2)) (r .3)
+-- a tag that is judged as held has a total
+over-number : (s : Slices) (t : Tag) (total : ℕ) (bytes : Bytes t) (fits : length t ≤ formOf 1 .limit) (p : Passed s) → judge t (holds (p .sound)) ≡ known
+    → insert-answer.numberOf (insert-call.insertOf (s .words) (s .keys) (s .scratch) t total .answer) ≡ 0
+over-number s t total bytes fits p e =
+    let z = p .sound in
+    let answers = refusals.plan-answers z t bytes in
+    let r = refusals.only-over (judge t (holds z)) (room.LeavesFull (frame (s .words)) (store-of (z .tree))) (room.Lacking (frame (s .words)) (z .tree) t) (insert-plan.planOf (frame (s .words)) (s .words) (s .keys) t) answers e in
+    let o = over-held z t bytes (r .1) in
+    ap insert-answer.numberOf (inserts-listed s t total bytes fits p .over (o .0) (o .1))
 
 pub due-number : {c : Call} {s : Slices} {n : ℕ} → CallBytes c → Due c s n → number c s ≡ some n
 due-number b (due.start-refused {c} {s} e) = ap some (start-number s c false e)
@@ -244,11 +214,11 @@ due-number b (due.insert-long {t} {total} {s} l) = ap (λ (a : Inserted). some (
 due-number b (due.insert-unframed {t} {total} {s} l e) = ap (λ (a : Inserted). some (insert-answer.numberOf a)) (insert-by s t total l checked.Damaged (check-unframed s e))
 due-number b (due.insert-short {t} {total} {s} l h) = ap (λ (a : Inserted). some (insert-answer.numberOf a)) (insert-by s t total l checked.ShortScratch (check-short s h))
 due-number b (due.insert-unsound {t} {total} {s} l h) = ap (λ (a : Inserted). some (insert-answer.numberOf a)) (insert-by s t total l checked.Damaged (check-unsound s h))
-due-number b (due.insert-over {t} {total} {s} l p e) = ap some (over-number s t total l p b e)
-due-number b (due.insert-clash {t} {total} {s} l p e) = ap some (clash-number s t total l p b e)
-due-number b (due.insert-full {t} {total} {s} l p e a) = ap some (full-number s t total l p b e a)
-due-number b (due.insert-lacking {t} {total} {s} l p e a k) = ap some (lacking-number s t total l p b e a k)
-due-number b (due.insert-new {t} {total} {s} l p e a k) = ap some (new-number s t total l p b e a k)
+due-number b (due.insert-over {t} {total} {s} l p e) = ap some (over-number s t total b l p e)
+due-number b (due.insert-clash {t} {total} {s} l p e) = ap (λ (a : Inserted). some (insert-answer.numberOf a)) (inserts-listed s t total b l p .clashes e)
+due-number b (due.insert-full {t} {total} {s} l p e a) = ap (λ (a : Inserted). some (insert-answer.numberOf a)) (inserts-listed s t total b l p .full e a)
+due-number b (due.insert-lacking {t} {total} {s} l p e a k) = ap (λ (a : Inserted). some (insert-answer.numberOf a)) (inserts-listed s t total b l p .lacks e a k)
+due-number b (due.insert-new {t} {total} {s} l p e a k) = ap (λ (a : Inserted). some (insert-answer.numberOf a)) (inserts-listed s t total b l p .new e a k)
 due-number b (due.delete-unframed {t} {s} e) = ap (λ (a : Deleted). some (delete-answer.numberOf a)) (delete-by s t checked.Damaged (check-unframed s e))
 due-number b (due.delete-short {t} {s} h) = ap (λ (a : Deleted). some (delete-answer.numberOf a)) (delete-by s t checked.ShortScratch (check-short s h))
 due-number b (due.delete-unsound {t} {s} h) = ap (λ (a : Deleted). some (delete-answer.numberOf a)) (delete-by s t checked.Damaged (check-unsound s h))

@@ -20,6 +20,7 @@ use Rattle.insert.specs.Insert as insert-call
 use Rattle.insert.specs.Insert.{insertOf, insertChecked, insertSound, insertBy}
 use Rattle.insert.specs.Plan as insert-plan
 use Rattle.insert.specs.declared.answer.Inserted.the-variants as inserted
+use Rattle.insert.specs.declared.plan.Plan.{Plan}
 use Rattle.delete.specs.Delete as delete-call
 use Rattle.delete.specs.Delete.{deleteOf, deleteChecked, deleteSound, deleteBy}
 use Rattle.delete.specs.Plan as delete-plan
@@ -101,10 +102,11 @@ module _ (s : Slices) where
         (le-ltb (formOf 1 .limit) (length t) h)
         ∙ ap (λ (c : Checked). insertBy (s .words) (s .keys) after t total c .answer) e
 
-    pub insert-passed : length t ≤ formOf 1 .limit → Passed s
-        → insertOf (s .words) (s .keys) (s .scratch) t total .answer ≡ insert-call.planned (frame (s .words)) (s .words) (s .keys) after t total (insert-plan.planOf (frame (s .words)) (s .words) (s .keys) t) .answer
+    pub insert-passed : length t ≤ formOf 1 .limit → Passed s → (q : Plan) → insert-plan.planOf (frame (s .words)) (s .words) (s .keys) t ≡ q
+        → insertOf (s .words) (s .keys) (s .scratch) t total .answer ≡ insert-call.planned (frame (s .words)) (s .words) (s .keys) after t total q .answer
     unfolding insertSound
-    insert-passed h p = insert-by h checked.Sound (check-passed p)
+    insert-passed h p q e =
+        insert-by h checked.Sound (check-passed p) ∙ ap (λ (q : Plan). insert-call.planned (frame (s .words)) (s .words) (s .keys) after t total q .answer) e
 
   module _ (t : List ℕ) where
     pub delete-by : (c : Checked) → checkOf (s .words) (s .keys) (s .scratch) .result ≡ c → deleteOf (s .words) (s .keys) (s .scratch) t .answer ≡ deleteBy (s .words) (s .keys) after t c .answer

@@ -8,9 +8,9 @@ use Rattle.art.specs.Deletes.{held}
 use Rattle.art.specs.Facts.{branchings}
 use Rattle.reading.specs.Calls.{Reads}
 use Rattle.whole.specs.Sound.{Sound}
-use Rattle.demands.specs.Histories.{Block, Turn, answered, CallBytes, totals}
+use Rattle.demands.specs.Histories.{Block, Turn, lent, answered, CallBytes, totals}
 use Rattle.demands.specs.Drawn.{drawing, usedInner}
-use Rattle.demands.specs.Listed.{Listed}
+use Rattle.demands.specs.Listed.{Suffices, Listed}
 
 -- b holds the tags and totals of l, n of them
 pub record Story (b : Block) (l : Listing ℕ) (n : ℕ) : Type 0 where
@@ -19,8 +19,8 @@ pub record Story (b : Block) (l : Listing ℕ) (n : ℕ) : Type 0 where
   pub totals-are : totals (held (sound .tree)) ≡ l
   -- which is sorted, read by the reading calls and listed by a walk from leaf to leaf
   pub reads : Reads (b .words) (b .keys) (held (sound .tree))
-  -- so that the answer of any of them, made next, is the list's
-  pub listed : (t : Turn) → CallBytes (t .call) → Listed (held (sound .tree)) (t .call) (answered b t)
+  -- and the answer of any call, made next with scratch enough, is the list's
+  pub listed : (t : Turn) → CallBytes (t .call) → Suffices (t .call) (lent b t) → Listed sound (t .call) (answered b t)
   -- its tree is the one that these tags alone draw
   pub draws : drawing (sound .tree) ≡ draw l
   -- with an inner record in use for each branching of the drawing, and no other

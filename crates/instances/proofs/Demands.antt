@@ -1,15 +1,16 @@
 -- The demands on blocks that are written out: what each theorem asks is computed, and what it says of the block can be read off.
-use Prim.Native.Nat.{ℕ}
+use Prim.Native.Nat.{ℕ, _≤_}
 use mathlib.Core.Path.{_≡_, refl, ap, subst, _∙_}
 use mathlib.Core.Logic.{_≢_}
 use mathlib.Core.List.{List, [], _∷_}
 use mathlib.Core.Option.{some}
 use native.Mathlib.Omega.{arith}
-use lib.ListN.{replicate}
+use lib.ListN.{length, replicate}
 use Rattle.records.specs.View.{Held}
-use Rattle.art.specs.Tags.{Listing, exact}
+use Rattle.art.specs.Tags.{Tag, Listing, exact}
 use Rattle.art.specs.Listings.{find, lookup}
 use Rattle.art.specs.Orders.{after}
+use Rattle.art.specs.Verdicts.{judge}
 use Rattle.art.specs.Drawings.{one, branch, kid, done, draw}
 use Rattle.art.specs.Deletes.{held}
 use Rattle.tree.specs.Walk.{searchOf}
@@ -21,13 +22,18 @@ use Rattle.whole.proofs.Samples.{two-words, two-keys, two-sound}
 use Rattle.range.specs.Range.{afterOf, afterIs}
 use Rattle.range.specs.declared.After.the-variants as after-variants
 use Rattle.pointed.proofs.Points.{tag-bytes}
+use Rattle.insert.specs.declared.answer.Inserted.{Inserted}
 use Rattle.insert.specs.declared.answer.Inserted.the-variants as inserted
+use Rattle.delete.specs.Meets as delete-meets
+use Rattle.delete.specs.declared.answer.Deleted.the-variants as deleted
 use Rattle.demands.specs.Calls as calls
 use Rattle.demands.specs.Calls.{Outcome, outcome, Promise, run}
 use Rattle.demands.specs.Histories.{Block, Turn, answered, next, after-all, puts, totals, told}
 use Rattle.demands.specs.Drawn.{drawing}
 use Rattle.demands.specs.Accepts.{insert, delete, turn}
-use Rattle.demands.proofs.Reading.{sound-reads, sound-listed}
+use Rattle.demands.specs.Listed.{InsertsListed}
+use Rattle.demands.proofs.Reading.{sound-reads}
+use Rattle.demands.proofs.Listed.{sound-listed}
 use Rattle.demands.proofs.Outcomes.{one-outcome, promised}
 use Rattle.demands.proofs.Refusals.{refused-same, scratch-left}
 use Rattle.demands.specs.Frames.{FrameKept}
@@ -38,7 +44,7 @@ use Rattle.demands.proofs.Histories.{drawing-is}
 use Rattle.demands.proofs.Corollaries.{one-tree, either-order, restored}
 use Rattle.instances.specs.Opened.{opened}
 use Rattle.instances.specs.Blocks.{bare, spare, two, room, three, lend, A, B, C, AB, entry, pair}
-use Rattle.instances.proofs.Sounds.{bare-sound, spare-sound, room-sound, swapped-sound, two-holds, spare-holds, room-holds, two-passed, two-tree}
+use Rattle.instances.proofs.Sounds.{bare-sound, spare-sound, room-sound, swapped-sound, two-holds, spare-holds, room-holds, two-places, two-passed, two-tree}
 
 -- ── one outcome ──
 abbrev put : Outcome
@@ -93,10 +99,31 @@ unfolding opened
 B-found = two-reads .search B (tag-bytes B refl)
 
 -- and so answers the call, made on the block
-B-listed : answered two (record { call = calls.search B; scratch = [] }) ≡ calls.found (found.Leaf 1 8)
+abbrev on-two : calls.Call → calls.Answer
+on-two c = answered two (record { call = c; scratch = replicate 3 1 })
+
+B-listed : on-two (calls.search B) ≡ calls.found (found.Leaf 1 8)
 unfolding opened
-B-listed =
-    sound-listed two two-sound (record { call = calls.search B; scratch = [] }) (tag-bytes B refl) ∙ ap (λ (l : Listing Held). calls.found (answerOf (find exact B l))) two-holds
+B-listed = sound-listed two two-sound (record { call = calls.search B; scratch = replicate 3 1 }) (tag-bytes B refl) tt ∙ ap (λ (l : Listing Held). calls.found (answerOf (find exact B l))) two-holds
+
+-- A with another total gives the old one, AB clashes, and A goes out with its total
+inserted-listed : (t : Tag) → Bytes t → length t ≤ 64 → (r : Inserted) × (on-two (calls.insert t 9) ≡ calls.inserted r) × InsertsListed two-sound t r
+unfolding opened
+inserted-listed t bytes short = sound-listed two two-sound (record { call = calls.insert t 9; scratch = replicate 3 1 }) bytes two-places .1 short
+
+A-over : on-two (calls.insert A 9) ≡ calls.inserted (inserted.Over 7)
+unfolding opened
+A-over = let z = inserted-listed A (tag-bytes A refl) (omega arith) in z .1 ∙ ap calls.inserted (z .2 .over (record { number = 0; total = 7 }) (ap (lookup A) two-holds))
+
+AB-clashes : on-two (calls.insert AB 9) ≡ calls.inserted inserted.Clash
+unfolding opened
+AB-clashes = let z = inserted-listed AB (tag-bytes AB refl) (omega arith) in z .1 ∙ ap calls.inserted (z .2 .clashes (ap (judge AB) two-holds))
+
+A-gone : on-two (calls.delete A) ≡ calls.deleted (deleted.Gone 7)
+unfolding opened
+A-gone =
+    sound-listed two two-sound (record { call = calls.delete A; scratch = replicate 3 1 }) (tag-bytes A refl) two-places
+    ∙ ap (λ (l : Listing Held). calls.deleted (delete-meets.answerOf (lookup A l))) two-holds
 
 -- the first at or after AB is B
 AB-after : afterOf two-words two-keys (replicate 3 1) AB .result ≡ after-variants.Leaf 1 8
