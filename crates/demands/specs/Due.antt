@@ -1,5 +1,5 @@
 -- The numbers given back, a table by call: each row has its condition, and that none earlier applies. The call that gives a tag gives no number.
--- On a sound block a search has two rows, what the walk meets and what the list has; their numbers are the same.
+-- On a sound block search, prefix search, minimum and maximum have two rows each, what the walk meets and what the list has; their numbers are the same.
 use Prim.Native.Nat.{ℕ, _≤_, _<_}
 use mathlib.Core.Path.{_≡_}
 use mathlib.Core.Logic.{_≢_}
