@@ -36,9 +36,10 @@ drawing-is d g = go (plain-of d) (plain-sane d g) ∙ ap draw (plain-held d)
     go none h = refl
     go (some t) h = erase-is-draw t h
 
-pub sound-story : (b : Block) (s : Sound (b .words) (b .keys)) {l : Listing ℕ} {n : ℕ} → totals (held (s .tree)) ≡ l → length l ≡ n → Story b l n
-sound-story b s e m = record {
+pub sound-story : (b : Block) (s : Sound (b .words) (b .keys)) → Bytes (b .keys) → {l : Listing ℕ} {n : ℕ} → totals (held (s .tree)) ≡ l → length l ≡ n → Story b l n
+sound-story b s k e m = record {
   sound = s;
+  bytes = k;
   totals-are = e;
   reads = sound-reads s;
   listed = sound-listed b s;
@@ -51,7 +52,7 @@ sound-story b s e m = record {
 -- on a sound block
 pub history-from : (b : Block) (s : Sound (b .words) (b .keys)) → Bytes (b .keys) → (l : Listing ℕ) (n : ℕ) → totals (held (s .tree)) ≡ l → length l ≡ n → (ts : List Turn) → AllBytes ts
     → Story (after-all b ts) (told-all b l ts) (counted-all b n ts)
-history-from b s k l n e m [] h = sound-story b s e m
+history-from b s k l n e m [] h = sound-story b s k e m
 history-from b s k l n e m (t ∷ ts) h =
     let c = changeOf (t .call) (lent b t) in
     let z = step-sound b s k t (h .0) in

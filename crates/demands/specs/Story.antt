@@ -6,6 +6,7 @@ use Rattle.art.specs.Tags.{Listing}
 use Rattle.art.specs.Drawings.{draw}
 use Rattle.art.specs.Deletes.{held}
 use Rattle.art.specs.Facts.{branchings}
+use Rattle.reading.specs.Answers.{Bytes}
 use Rattle.reading.specs.Calls.{Reads}
 use Rattle.whole.specs.Sound.{Sound}
 use Rattle.demands.specs.Histories.{Block, Turn, lent, answered, CallBytes, totals}
@@ -15,6 +16,8 @@ use Rattle.demands.specs.Listed.{Suffices, Listed}
 -- b holds the tags and totals of l, n of them
 pub record Story (b : Block) (l : Listing ℕ) (n : ℕ) : Type 0 where
   pub sound : Sound (b .words) (b .keys)
+  -- its key bytes are bytes still, as the theorems on a next call ask
+  pub bytes : Bytes (b .keys)
   -- what it holds is what the accepted calls define
   pub totals-are : totals (held (sound .tree)) ≡ l
   -- which is sorted, read by the reading calls and listed by a walk from leaf to leaf

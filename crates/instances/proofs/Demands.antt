@@ -40,6 +40,7 @@ use Rattle.demands.specs.Frames.{FrameKept}
 use Rattle.demands.proofs.Frames.{frame-kept, frames-kept}
 use Rattle.demands.proofs.Numbers.{after-passed}
 use Rattle.demands.proofs.Steps.{step-sound}
+use Rattle.demands.proofs.KeyBytes.{step-bytes}
 use Rattle.demands.proofs.Histories.{drawing-is}
 use Rattle.demands.proofs.Corollaries.{one-tree, either-order, restored}
 use Rattle.instances.specs.Opened.{opened}
@@ -136,6 +137,11 @@ unfolding opened
 put-sound =
     let z = step-sound room room-sound room-bytes (turn (insert C 9) (replicate 5 1)) (tag-bytes C refl) in
     (z .0, z .1 ∙ ap (λ (l : Listing Held). told (totals l) (puts C 9)) room-holds)
+
+-- and key bytes below 256
+put-bytes : Bytes (three .keys)
+unfolding opened
+put-bytes = step-bytes room room-bytes (turn (insert C 9) (replicate 5 1)) (tag-bytes C refl)
 
 -- ── in either order ──
 -- A and B put into a bare block, and B and A: other words, the same drawing
