@@ -36,7 +36,7 @@ use Rattle.insert.specs.Insert as insert-call
 use Rattle.insert.specs.Meets.{newTotal}
 use Rattle.delete.specs.Delete as delete-call
 use Rattle.demands.specs.Calls.{Call, start, search, prefix-search, minimum, maximum, next-leaf, leaf-facts, leaf-tag, check, first-at-or-after, insert, delete, Slices, run}
-use Rattle.demands.specs.Histories.{Block, Turn, lent, next, Change, nothing, startChange, insertChange, deleteChange, changeOf, totals, told, counted, CallBytes}
+use Rattle.demands.specs.Histories.{Block, Turn, lent, next, Change, nothing, startChange, insertChange, deleteChange, changeOf, totals, told, Tally, Tallied, counted, CallBytes}
 use Rattle.demands.proofs.Changes.{frame-limit, insert-sound, over-sound, delete-held, delete-sound}
 use Rattle.demands.proofs.Cases.{refused-done, insert-cases, delete-cases}
 use Rattle.demands.proofs.Totals.{total-of, totals-sorted, totals-put, totals-alter, totals-lookup}
@@ -133,47 +133,48 @@ pub step-sound : (b : Block) (s : Sound (b .words) (b .keys)) → Bytes (b .keys
 step-sound b s k t h = step-by s (t .call) (t .scratch) h k
 
 -- ── how many ──
+-- what is tallied before a change is so after it
 abbrev Counts : Listing ℕ → Change → Type 0
-Counts l c = length (told l c) ≡ counted (length l) c
+Counts l c = (n : Tally) → Tallied l n → Tallied (told l c) (counted n c)
 
 start-counts : (l : Listing ℕ) (a : Started) → Counts l (startChange a)
-start-counts l started.Done = refl
-start-counts l started.Refused = refl
+start-counts l started.Done n e = refl
+start-counts l started.Refused n e = e
 
 counts-nothing : (l : Listing ℕ) (c : Change) → c ≡ nothing → Counts l c
-counts-nothing l c e = ap (λ (x : Change). length (told l x)) e ∙ ap (counted (length l)) (sym e)
+counts-nothing l c e = subst (Counts l) (sym e) (λ n h. h)
 
 module _ {words keys : List ℕ} (s : Sound words keys) where
   insert-counts : (scratch tag : List ℕ) (total : ℕ) → Counts (totals (held (s .tree))) (insertChange tag total (insert-call.insertOf words keys scratch tag total .answer))
   insert-counts scratch tag total =
       let l = totals (held (s .tree)) in
       insert-cases words keys tag total (λ o. Counts l (insertChange tag total (o .answer))) (λ a r e. counts-nothing l (insertChange tag total a) e)
-      (λ r t short site n gap e. put-length tag total l) (λ r t leaf e. alter-length (λ x. total) tag l) scratch
+      (λ r t short site k gap e n h. omega (arith, put-length tag total l)) (λ r t leaf e n h. omega (arith, alter-length (λ x. total) tag l)) scratch
 
   delete-counts : (scratch tag : List ℕ) → CallBytes (delete tag) → Counts (totals (held (s .tree))) (deleteChange tag (delete-call.deleteOf words keys scratch tag .answer))
   delete-counts scratch tag bytes =
       let l = totals (held (s .tree)) in
       delete-cases words keys tag (λ o. Counts l (deleteChange tag (o .answer))) (λ a r e. counts-nothing l (deleteChange tag a) e)
-      (λ r t cut n gap e.
+      (λ r t cut k gap e n i.
       let h = delete-held s tag bytes e in
       let found : lookup tag l ≡ some (h .0 .total) = totals-lookup tag (held (s .tree)) ∙ ap total-of (h .1) in
       omega (arith, leave-length tag (h .0 .total) l (totals-sorted (held (s .tree)) (held-sorted (s .tree) (s .good))) found)) scratch
 
   counts-by : (c : Call) (scratch : List ℕ) → CallBytes c → Counts (totals (held (s .tree))) (changeOf c (record { words = words; keys = keys; scratch = scratch }))
   counts-by (start c) r h = start-counts (totals (held (s .tree))) (startOf words keys c .answer)
-  counts-by (search t) r h = refl
-  counts-by (prefix-search t) r h = refl
-  counts-by minimum r h = refl
-  counts-by maximum r h = refl
-  counts-by (next-leaf n) r h = refl
-  counts-by (leaf-facts n) r h = refl
-  counts-by (leaf-tag n) r h = refl
-  counts-by check r h = refl
-  counts-by (first-at-or-after t) r h = refl
+  counts-by (search t) r h = λ n e. e
+  counts-by (prefix-search t) r h = λ n e. e
+  counts-by minimum r h = λ n e. e
+  counts-by maximum r h = λ n e. e
+  counts-by (next-leaf k) r h = λ n e. e
+  counts-by (leaf-facts k) r h = λ n e. e
+  counts-by (leaf-tag k) r h = λ n e. e
+  counts-by check r h = λ n e. e
+  counts-by (first-at-or-after t) r h = λ n e. e
   counts-by (insert t total) r h = insert-counts r t total
   counts-by (delete t) r h = delete-counts r t h
 
 -- an accepted new insert makes the list one longer, an accepted delete one shorter
-pub step-counts : (b : Block) (s : Sound (b .words) (b .keys)) (t : Turn) → CallBytes (t .call)
-    → length (told (totals (held (s .tree))) (changeOf (t .call) (lent b t))) ≡ counted (length (totals (held (s .tree)))) (changeOf (t .call) (lent b t))
+pub step-counts : (b : Block) (s : Sound (b .words) (b .keys)) (t : Turn) → CallBytes (t .call) → (n : Tally) → Tallied (totals (held (s .tree))) n
+    → Tallied (told (totals (held (s .tree))) (changeOf (t .call) (lent b t))) (counted n (changeOf (t .call) (lent b t)))
 step-counts b s t h = counts-by s (t .call) (t .scratch) h

@@ -1,7 +1,9 @@
 -- Histories of calls, and what the accepted ones define.
-use Prim.Native.Nat.{ℕ, suc, _-_}
+use Prim.Native.Nat.{ℕ, suc, _+_}
+use mathlib.Core.Path.{_≡_}
 use mathlib.Core.List.{List, [], _∷_}
 use mathlib.Core.Option.{some}
+use lib.ListN.{length}
 use Rattle.records.specs.View.{Held}
 use Rattle.art.specs.Tags.{Listing}
 use Rattle.art.specs.Puts.{put, alter, leave}
@@ -106,16 +108,28 @@ abbrev pub told-all : Block → Listing ℕ → List Turn → Listing ℕ
 told-all b l [] = l
 told-all b l (t ∷ ts) = told-all (next b t) (told l (changeOf (t .call) (lent b t))) ts
 
--- accepted new inserts less accepted deletes since start
-abbrev pub counted : ℕ → Change → ℕ
-counted n fresh = 0
-counted n (puts tag total) = suc n
+-- accepted new inserts, and accepted deletes, since the last accepted start
+pub record Tally : Type 0 where
+  pub inserts : ℕ
+  pub deletes : ℕ
+
+abbrev pub tally : (inserts deletes : ℕ) → Tally
+tally i d = record { inserts = i; deletes = d }
+
+-- each counts by itself, and a start begins anew
+abbrev pub counted : Tally → Change → Tally
+counted n fresh = tally 0 0
+counted n (puts tag total) = tally (suc (n .inserts)) (n .deletes)
 counted n (alters tag total) = n
-counted n (leaves tag) = n - 1
+counted n (leaves tag) = tally (n .inserts) (suc (n .deletes))
 counted n nothing = n
 
--- the same, call by call
-abbrev pub counted-all : Block → ℕ → List Turn → ℕ
+-- a list's length and the deletes are together the inserts
+abbrev pub Tallied : Listing ℕ → Tally → Type 0
+Tallied l n = length l + n .deletes ≡ n .inserts
+
+-- call by call
+abbrev pub counted-all : Block → Tally → List Turn → Tally
 counted-all b n [] = n
 counted-all b n (t ∷ ts) = counted-all (next b t) (counted n (changeOf (t .call) (lent b t))) ts
 

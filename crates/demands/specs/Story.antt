@@ -1,5 +1,5 @@
--- What is known of a block after any calls, by the tags with their totals and the count that the accepted ones define.
-use Prim.Native.Nat.{ℕ}
+-- What is known of a block after any calls, by the tags with their totals and the counts that the accepted ones define.
+use Prim.Native.Nat.{ℕ, _+_}
 use mathlib.Core.Path.{_≡_}
 use Rattle.frames.specs.Frame.{countWord}
 use Rattle.art.specs.Tags.{Listing}
@@ -9,12 +9,12 @@ use Rattle.art.specs.Facts.{branchings}
 use Rattle.reading.specs.Answers.{Bytes}
 use Rattle.reading.specs.Calls.{Reads}
 use Rattle.whole.specs.Sound.{Sound}
-use Rattle.demands.specs.Histories.{Block, Turn, lent, answered, CallBytes, totals}
+use Rattle.demands.specs.Histories.{Block, Turn, lent, answered, CallBytes, totals, Tally}
 use Rattle.demands.specs.Drawn.{drawing, usedInner}
 use Rattle.demands.specs.Listed.{Suffices, Listed}
 
--- b holds the tags and totals of l, n of them
-pub record Story (b : Block) (l : Listing ℕ) (n : ℕ) : Type 0 where
+-- b holds the tags and totals of l, as many as the accepted calls of n put in and did not take out
+pub record Story (b : Block) (l : Listing ℕ) (n : Tally) : Type 0 where
   pub sound : Sound (b .words) (b .keys)
   -- its key bytes are bytes still, as the theorems on a next call ask
   pub bytes : Bytes (b .keys)
@@ -28,5 +28,5 @@ pub record Story (b : Block) (l : Listing ℕ) (n : ℕ) : Type 0 where
   pub draws : drawing (sound .tree) ≡ draw l
   -- with an inner record in use for each branching of the drawing, and no other
   pub inner : usedInner (b .words) ≡ branchings (draw l)
-  -- the count word has the number of accepted new inserts since start, less that of accepted deletes
-  pub count : countWord (b .words) ≡ n
+  -- the count word and the accepted deletes since start are together the accepted new inserts
+  pub count : countWord (b .words) + n .deletes ≡ n .inserts

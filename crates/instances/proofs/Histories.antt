@@ -9,7 +9,7 @@ use Rattle.pools.specs.declared.start.Started.the-variants.{Done}
 use Rattle.reading.specs.Answers.{Bytes}
 use Rattle.pointed.proofs.Points.{tag-bytes}
 use Rattle.demands.specs.Calls.{Call, start, insert, delete}
-use Rattle.demands.specs.Histories.{Block, Turn, next, after-all, told-all, counted-all, AllBytes}
+use Rattle.demands.specs.Histories.{Block, Turn, next, after-all, told-all, Tally, tally, counted-all, AllBytes}
 use Rattle.demands.specs.Story.{Story}
 use Rattle.demands.proofs.Histories.{history}
 use Rattle.instances.specs.Opened.{opened}
@@ -34,11 +34,12 @@ accepted : startOf (before .words) (before .keys) (caps 2) .answer ≡ Done
 unfolding opened
 accepted = refl
 
-defined : List Turn → Listing ℕ × ℕ
+defined : List Turn → Listing ℕ × Tally
 unfolding opened
-defined ts = (told-all first [] ts, counted-all first 0 ts)
+defined ts = (told-all first [] ts, counted-all first (tally 0 0) ts)
 
-one-left : defined calls ≡ ((A, 9) ∷ [], 1)
+-- two went in and one out
+one-left : defined calls ≡ ((A, 9) ∷ [], tally 2 1)
 unfolding defined
 one-left = refl
 
@@ -49,6 +50,6 @@ bytes =
     let a : Bytes A = tag-bytes A refl in
     (b, (a, (a, (tag-bytes AB refl, (tag-bytes C refl, (b, tt))))))
 
-story : Story (after-all first calls) ((A, 9) ∷ []) 1
+story : Story (after-all first calls) ((A, 9) ∷ []) (tally 2 1)
 unfolding defined
-story = subst (λ (d : Listing ℕ × ℕ). Story (after-all first calls) (d .0) (d .1)) one-left (history before (caps 2) (replicate 3 1) accepted calls bytes)
+story = subst (λ (d : Listing ℕ × Tally). Story (after-all first calls) (d .0) (d .1)) one-left (history before (caps 2) (replicate 3 1) accepted calls bytes)
