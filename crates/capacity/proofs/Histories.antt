@@ -34,7 +34,7 @@ use Rattle.demands.specs.Histories.{Block, Turn, lent, answered, next, after-al
 use Rattle.demands.specs.Frames.{NoStart}
 use Rattle.demands.proofs.Cases.{insert-cases, delete-cases}
 use Rattle.demands.proofs.Changes.{frame-limit}
-use Rattle.demands.proofs.Frames.{frame-kept}
+use Rattle.demands.proofs.Frames.{frame-kept, kept-frame}
 use Rattle.demands.proofs.KeyBytes.{start-bytes, step-bytes}
 use Rattle.capacity.specs.Capacity.{Ample, AmpleFrame, AmpleCaps, AmpleCall, AmpleStarts, Over, Tight}
 use Rattle.capacity.proofs.Rooms.{tight-block, tight-never-lacks}
@@ -88,7 +88,7 @@ module _ (b : Block) (k : Kept (b .words) (b .keys)) (bytes : Bytes (b .keys)) w
 
   -- the frame stays
   framed : (c : Call) (scratch : List ℕ) → NoStart c → CallBytes c → let o = run c (record { words = b .words; keys = b .keys; scratch = scratch }) .slices in TightAfter (o .words) (o .keys) → Kept (o .words) (o .keys)
-  framed c scratch n h tight = record { ample = subst AmpleFrame (sym (frame-kept c n h (record { words = b .words; keys = b .keys; scratch = scratch }) bytes .0)) (k .ample); tight = tight }
+  framed c scratch n h tight = record { ample = subst AmpleFrame (sym (kept-frame (frame-kept c n h (record { words = b .words; keys = b .keys; scratch = scratch }) bytes))) (k .ample); tight = tight }
 
   step-kept : (t : Turn) → CallBytes (t .call) → AmpleCall (t .call) (lent b t) → Kept (next b t .words) (next b t .keys)
   step-kept t h a = go (t .call) h a

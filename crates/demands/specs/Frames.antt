@@ -2,14 +2,22 @@
 use Prim.Native.Nat.{ℕ}
 use mathlib.Core.Path.{_≡_}
 use mathlib.Core.List.{List, [], _∷_}
-use mathlib.Core.Bool.{true}
-use Rattle.frames.specs.Frame.{frameFits, frame}
+use lib.ListN.{length, getD}
+use Rattle.frames.specs.Frame.{trailerOf}
 use Rattle.demands.specs.Calls.{Call, start, search, prefix-search, minimum, maximum, next-leaf, leaf-facts, leaf-tag, check, first-at-or-after, insert, delete}
 use Rattle.demands.specs.Histories.{Turn}
 
--- the frame stays, and fits after where it did before
-abbrev pub FrameKept : (words keys words′ keys′ : List ℕ) → Type 0
-FrameKept words keys words′ keys′ = (frame words′ ≡ frame words) × (frameFits words keys ≡ true → frameFits words′ keys′ ≡ true)
+-- the trailer's words that make the frame: form, five distances, five capacities, and the words in the block
+abbrev pub frameWords : List ℕ → List ℕ
+frameWords words =
+    let t = trailerOf words in
+    getD t 0 0 ∷ getD t 1 0 ∷ getD t 2 0 ∷ getD t 3 0 ∷ getD t 4 0 ∷ getD t 5 0 ∷ getD t 6 0 ∷ getD t 7 0 ∷ getD t 8 0 ∷ getD t 9 0 ∷ getD t 10 0 ∷ getD t 15 0 ∷ []
+
+-- they stay, and so do both lengths
+pub record FrameKept (words keys words′ keys′ : List ℕ) : Type 0 where
+  pub trailer : frameWords words′ ≡ frameWords words
+  pub words-long : length words′ ≡ length words
+  pub keys-long : length keys′ ≡ length keys
 
 -- any call but start
 abbrev pub NoStart : Call → Type 0

@@ -6,6 +6,7 @@ use mathlib.Core.List.{List, [], _∷_}
 use mathlib.Core.Option.{some}
 use native.Mathlib.Omega.{arith}
 use lib.ListN.{length, replicate}
+use Rattle.frames.specs.Frame.{frameFits, frame}
 use Rattle.records.specs.View.{Held}
 use Rattle.art.specs.Tags.{Tag, Listing, exact}
 use Rattle.art.specs.Listings.{find, lookup}
@@ -37,7 +38,7 @@ use Rattle.demands.proofs.Listed.{sound-listed}
 use Rattle.demands.proofs.Outcomes.{one-outcome, promised}
 use Rattle.demands.proofs.Refusals.{refused-same, scratch-left}
 use Rattle.demands.specs.Frames.{FrameKept}
-use Rattle.demands.proofs.Frames.{frame-kept, frames-kept}
+use Rattle.demands.proofs.Frames.{frame-kept, frames-kept, kept-frame, kept-fits}
 use Rattle.demands.proofs.Numbers.{after-passed}
 use Rattle.demands.proofs.Steps.{step-sound}
 use Rattle.demands.proofs.KeyBytes.{step-bytes}
@@ -89,6 +90,13 @@ there-and-back = turn (insert C 9) (replicate 5 1) ∷ record { call = calls.sea
 
 back-framed : FrameKept (room .words) (room .keys) (after-all room there-and-back .words) (after-all room there-and-back .keys)
 back-framed = let c : Bytes C = tag-bytes C refl in frames-kept room room-bytes there-and-back (tt, (tt, (tt, tt))) (c, (c, (c, tt)))
+
+-- so it is the same frame, and fits
+put-frame : frame (three .words) ≡ frame (room .words)
+put-frame = kept-frame put-framed
+
+put-fits : frameFits (three .words) (three .keys) ≡ frameFits (room .words) (room .keys)
+put-fits = kept-fits put-framed
 
 -- ── as a sorted list ──
 two-reads : Reads two-words two-keys (entry A 0 7 ∷ entry B 1 8 ∷ [])
