@@ -1,6 +1,7 @@
 pub mod Reading
 pub mod Outcomes
 pub mod Refusals
+pub mod Told
 pub mod Changes
 pub mod Cases
 pub mod Frames

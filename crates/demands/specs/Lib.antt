@@ -1,4 +1,5 @@
 pub mod Calls
+pub mod Told
 pub mod Histories
 pub mod Frames
 pub mod Scratch

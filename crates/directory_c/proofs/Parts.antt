@@ -5,11 +5,10 @@ use mathlib.Core.List.{List, [], _∷_}
 use mathlib.Core.Bool.{Bool, true, false}
 use native.Mathlib.Omega.{arith}
 use borrow.Author.Tests.{eqb-true, eqb-false}
-use lib.ListN.{length, take, length-take}
+use lib.ListN.{length, take}
 use lib.Dec.{eqb}
 use Rattle.lists.specs.Scan.{choose}
 use Rattle.lists.specs.Part.{between}
-use Rattle.lists.proofs.Parts.{between-length}
 use Rattle.frames.specs.Frame.{trailerOf, frameFits, frameOf, FrameOf}
 use Rattle.frames.specs.Place.{keyAt}
 use Rattle.frames.specs.declared.frame.Frame.{Frame}
@@ -17,7 +16,9 @@ use Rattle.tree.proofs.Arrivals.{frame-out}
 use Rattle.leaves.specs.Leaf.{tagLen, tagOf}
 use Rattle.leaves.proofs.Leaves.{tag-short, tag-part, tag-by}
 use Rattle.directory_c.specs.declared.DirectoryPart.{DirectoryPart}
-use Rattle.directory_c.specs.Numbers.{tagStart, partOf}
+use Rattle.demands.specs.Calls.{leaf-facts, run}
+use Rattle.demands.proofs.Told.{tag-long, tag-facts}
+use Rattle.directory_c.specs.Numbers.{lentTwo, leafIn, tagStart, partOf}
 
 no-bytes : (l : List ℕ) → length l ≡ 0 → l ≡ []
 no-bytes [] e = refl
@@ -37,14 +38,10 @@ module _ (words keys : List ℕ) (n : ℕ) where
       let w : FrameOf f words keys = record { read = refl; fits = fits } in
       let a = n * f .form .limit in
       let is : take (tagLen f words keys n) (keyAt f keys n) ≡ tag = tag-by w n _ refl in
-      let cut : length tag ≡ length (take (tagLen f words keys n) (keyAt f keys n)) = ap length (sym is) in
-      let some : 0 < tagLen f words keys n = omega (arith, length-take (tagLen f words keys n) (keyAt f keys n)) in
-      let short = tag-short w n some in
-      let long : length tag ≡ tagLen f words keys n =
-      omega (arith, length-take (tagLen f words keys n) (keyAt f keys n), between-length keys a (a + f .form .limit) (omega arith) (short .1), short .0) in
+      let long : length tag ≡ tagLen f words keys n = ap length (sym is) ∙ tag-long w n in
       ap (λ (b : Bool). between keys (choose b a 0) (choose b a 0 + length tag)) fits
       ∙ ap (λ (m : ℕ). between keys a (a + m)) long
-      ∙ tag-part w n _ (short .0)
+      ∙ tag-part w n _ (tag-short w n (omega arith) .0)
       ∙ is
 
   -- where it does not, there is no tag with bytes
@@ -61,3 +58,13 @@ module _ (words keys : List ℕ) (n : ℕ) where
   pub part-tag : let p : DirectoryPart = partOf words keys n (tagOf words keys n) in between keys (p .start) (p .start + p .length) ≡ tagOf words keys n
   unfolding partOf
   part-tag = by-length (eqb (length tag) 0) refl
+
+  part-by : (b : Bool) → eqb (length tag) 0 ≡ b
+      → choose {A = DirectoryPart} b (record { start = 0; length = 0 }) (record { start = tagStart words keys n; length = length tag }) .length ≡ length tag
+  part-by true e = sym (eqb-true _ _ e)
+  part-by false e = refl
+
+  -- and it is as long as the other call on the leaf number says
+  pub part-facts : partOf words keys n (tagOf words keys n) .length ≡ leafIn (run (leaf-facts n) (lentTwo words keys) .answer) .length
+  unfolding partOf
+  part-facts = part-by (eqb (length tag) 0) refl ∙ tag-facts n (lentTwo words keys)

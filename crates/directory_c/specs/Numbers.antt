@@ -6,13 +6,8 @@ use lib.Dec.{eqb}
 use Rattle.lists.specs.Scan.{choose}
 use Rattle.frames.specs.Frame.{frameFits, frame}
 use Rattle.frames.specs.declared.frame.Caps.{Caps}
-use Rattle.pools.specs.Start.{startNumber}
-use Rattle.tree.specs.Answer.{foundNumber, foundLeaf, foundTotal, factsNumber, factsLength, factsTotal}
-use Rattle.whole.specs.Check as check
-use Rattle.range.specs.Range as range
-use Rattle.insert.specs.Answer as insert
-use Rattle.delete.specs.Answer as delete
-use Rattle.demands.specs.Calls.{Slices, Answer, started, found, facts, tag, checked, after, inserted, deleted, Outcome}
+use Rattle.demands.specs.Calls.{Slices, Answer, Outcome}
+use Rattle.demands.specs.Told.{toldBy}
 use Rattle.directory_c.specs.declared.DirectoryChanged.{DirectoryChanged}
 use Rattle.directory_c.specs.declared.DirectoryFound.{DirectoryFound}
 use Rattle.directory_c.specs.declared.DirectoryLeaf.{DirectoryLeaf}
@@ -30,28 +25,7 @@ abbrev pub capsOf : (c1 c2 c3 c4 c5 : ℕ) → Caps
 capsOf c1 c2 c3 c4 c5 = record { c1 = c1; c2 = c2; c3 = c3; c4 = c4; c5 = c5 }
 
 -- ── what is given back ──
--- all that an answer tells: its number, and the leaf, the length, the total and the tag, 0 or empty where it has none
-pub record Told : Type 0 where
-  pub number : ℕ
-  pub leaf : ℕ
-  pub length : ℕ
-  pub total : ℕ
-  pub tag : List ℕ
-
-abbrev pub told : (number leaf length total : ℕ) → List ℕ → Told
-told n l m t b = record { number = n; leaf = l; length = m; total = t; tag = b }
-
-abbrev pub toldBy : Answer → Told
-toldBy (started a) = told (startNumber a) 0 0 0 []
-toldBy (found a) = told (foundNumber a) (foundLeaf a) 0 (foundTotal a) []
-toldBy (facts a) = told (factsNumber a) 0 (factsLength a) (factsTotal a) []
-toldBy (tag b) = told 0 0 (length b) 0 b
-toldBy (checked a) = told (check.numberOf a) 0 0 0 []
-toldBy (after a) = told (range.numberOf a) (range.leafOf a) 0 (range.totalIn a) []
-toldBy (inserted a) = told (insert.numberOf a) 0 0 (insert.totalIn a) []
-toldBy (deleted a) = told (delete.numberOf a) 0 0 (delete.totalIn a) []
-
--- the part of it that a function gives back
+-- the part that a function gives back of what an answer tells
 abbrev pub numberIn : Answer → ℕ
 numberIn a = toldBy a .number
 

@@ -36,7 +36,9 @@ use Rattle.demands.specs.Listed.{InsertsListed}
 use Rattle.demands.proofs.Reading.{sound-reads}
 use Rattle.demands.proofs.Listed.{sound-listed}
 use Rattle.demands.proofs.Outcomes.{one-outcome, promised}
+use Rattle.demands.specs.Told as tells
 use Rattle.demands.proofs.Refusals.{refused-same, scratch-left}
+use Rattle.demands.proofs.Told.{refused-told}
 use Rattle.demands.specs.Frames.{FrameKept}
 use Rattle.demands.proofs.Frames.{frame-kept, frames-kept, kept-frame, kept-fits}
 use Rattle.demands.proofs.Numbers.{after-passed}
@@ -66,6 +68,11 @@ put-only o p = one-outcome (calls.insert C 9) (lend room 5) o put p put-promised
 refused : (run (calls.insert C 9) (lend two 3) .slices .words ≡ two-words) × (run (calls.insert C 9) (lend two 3) .slices .keys ≡ two-keys)
 unfolding opened
 refused = refused-same (calls.insert C 9) (lend two 3) 4 refl (λ e. omega arith)
+
+-- and tells nothing but the 4
+refused-bare : tells.toldBy (run (calls.insert C 9) (lend two 3) .answer) ≡ tells.told 4 0 0 0 []
+unfolding opened
+refused-bare = refused-told (calls.insert C 9) (lend two 3) 4 refl (λ e. omega arith)
 
 -- ── scratch: five bytes for three records, and two ──
 cleared : run calls.check (lend two 5) .slices .scratch ≡ 0 ∷ 0 ∷ 0 ∷ 1 ∷ 1 ∷ []
