@@ -34,6 +34,7 @@ module _ {A : Type 0} where
   insert-edits σ s a g room (fork up y w d c) = room-edits σ s a room (fork up y w d c)
   insert-edits σ s a g room broken = []
 
+  -- the writes at the point of a call's tag: those of an insert, or of leaving the tag out
   abbrev pub point-edits : Store A → Call A → Point → Edits A
   point-edits σ (insert s a g room) pt = insert-edits σ s a g room pt
   point-edits σ (delete s hm) pt = delete-at σ hm pt
@@ -49,10 +50,12 @@ module _ {A : Type 0} where
   call-edits f σ none c = first-edits c
   call-edits f σ (some x) c = point-edits σ c (point f σ x (call-tag c))
 
+  -- the root after a call at the point of its tag; after a delete there may be none
   abbrev pub point-root : Store A → Call A → Point → Place → Option Place
   point-root σ (insert s a g room) pt old = some (room-root room pt old)
   point-root σ (delete s hm) pt old = delete-root σ hm pt old
 
+  -- with no root before, a new leaf becomes the root; a delete, or an insert with no room, leaves none
   abbrev pub first-root : Call A → Option Place
   first-root (insert s a g none) = none
   first-root (insert s a g (some pl)) = some (leaf-place (pl .leaf-number))

@@ -137,6 +137,7 @@ module _ {A : Type 0} where
       Numbered (leaf n s a) = number a ≡ n
       Numbered (inner k n run r) = NumberedRow r
 
+      -- and so does each leaf below a row
       pub NumberedRow : Row A → Type 0
       NumberedRow end = Unit {0}
       NumberedRow (child b t r) = Numbered t × NumberedRow r

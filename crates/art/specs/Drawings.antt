@@ -15,6 +15,7 @@ mutual
     one : (tag : Tag) (held : A) → Drawing A
     branch : (len : ℕ) (first : List ℕ) (kids : Kids A) → Drawing A
 
+  -- the children of a branching: each has a byte, and what is drawn below it
   pub data Kids (A : Type 0) : Type 0 where
     done : Kids A
     kid : (byte : ℕ) (below : Drawing A) (more : Kids A) → Kids A

@@ -17,6 +17,7 @@ mutual
     leaf-node : (number : ℕ) (tag : Tag) (held : A) → Node A
     inner-node : (kind number len : ℕ) (stored : List ℕ) (row : NodeRow A) → Node A
 
+  -- the children of a record: each has a byte, and what is shown below it
   pub data NodeRow (A : Type 0) : Type 0 where
     end-node : NodeRow A
     child-node : (byte : ℕ) (node : Node A) (row : NodeRow A) → NodeRow A

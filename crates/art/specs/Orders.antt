@@ -57,7 +57,7 @@ module _ {A : Type 0} where
   from-fork x y (equal e) o = none
   from-fork x y (above h) o = none
 
-  -- where the run goes on past s all of the record is after it
+  -- where s ends within the run or with it all of the record is after it
   abbrev pub from-inner : (s run : Tag) → Meet s run → Option A → (ℕ → Tag → Option A) → Option A
   from-inner s run (same e) o rec = o
   from-inner s run (short y v e) o rec = o

@@ -39,14 +39,17 @@ pub data Point : Type 0 where
   -- the store shows no tree
   broken : Point
 
+-- where a plan has a new branching
 abbrev pub fork-place : Plan → Place
 fork-place pl = inner-place (pl .fork-kind) (pl .fork-number)
 
+-- on to the first child of a row, if it has one
 abbrev pub lowest-refs : Refs → (Place → Option ℕ) → Option ℕ
 lowest-refs [] go = none
 lowest-refs (e ∷ rs) go = go (e .1)
 
 module _ {A : Type 0} where
+  -- the row of a record's cell; any other has none
   abbrev pub cell-refs : Cell A → Refs
   cell-refs unused = []
   cell-refs (leaf-cell t a) = []
@@ -68,6 +71,7 @@ abbrev pub stop-leaf : (s t : Tag) (n d c : ℕ) (upper up : Up) → Point
 stop-leaf s t n d c upper up =
     ite (decLe (length s) (d + c)) (ite (decLe (length t) (d + c)) (holds upper up n) clashes) (ite (decLe (length t) (d + c)) clashes (fork up (leaf-place n) n d c))
 
+-- on to the child for x, or, where there is none, the tag belongs into this record
 abbrev pub step-kid : Up → (k n x : ℕ) → Option Place → (Place → Point) → Point
 step-kid up k n x none go = into up k n x
 step-kid up k n x (some y) go = go y
@@ -80,6 +84,7 @@ step-inner s k n len rs w d c up go =
     (ite (decLe len c) (step-kid up k n x (find-ref rs x) (λ y. go y (suc (d + len)) (via k n x))) (fork up (inner-place k n) w d c))
 
 module _ {A : Type 0} where
+  -- a leaf's tag is compared from depth d on; with any other cell the store shows no tree
   abbrev pub seek-leaf : (s : Tag) (n d : ℕ) (upper up : Up) → Cell A → Point
   seek-leaf s n d upper up unused = broken
   seek-leaf s n d upper up (leaf-cell t a) = stop-leaf s t n d (shared-length (drop d s) (drop d t)) upper up
@@ -90,6 +95,7 @@ module _ {A : Type 0} where
   seek-run σ s k n len rs d up none go = broken
   seek-run σ s k n len rs d up (some w) go = step-inner s k n len rs w d (shared-length (drop d s) (take len (drop d (tag-at σ w)))) up go
 
+  -- a record's run is compared from depth d on; with any other cell the store shows no tree
   abbrev pub seek-inner : Store A → (s : Tag) (k n d : ℕ) (up : Up) → Cell A → Option ℕ → (Place → ℕ → Up → Point) → Point
   seek-inner σ s k n d up unused o go = broken
   seek-inner σ s k n d up (leaf-cell t a) o go = broken
@@ -119,6 +125,7 @@ module _ {A : Type 0} where
   relink-up σ top old new = []
   relink-up σ (via k n b) old new = relink (inner-place k n) (σ (inner-place k n)) b old new
 
+  -- what a leaf's cell holds; any other holds nothing
   abbrev pub cell-held : Cell A → Option A
   cell-held unused = none
   cell-held (leaf-cell t a) = some a
@@ -139,10 +146,12 @@ module _ {A : Type 0} where
   trim t d c (leaf-cell v a) = leaf-cell v a
   trim t d c (inner-cell len st rs) = inner-cell (len - suc c) (take 8 (take (len - suc c) (drop (suc (d + c)) t))) rs
 
+  -- what stands below a new branching: a leaf stays as it is, a record is written with the rest of its run
   abbrev pub shorten : (t : Tag) (d c : ℕ) → Place → Cell A → Edits A
   shorten t d c (leaf-place n) e = []
   shorten t d c (inner-place k n) e = (inner-place k n, trim t d c e) ∷ []
 
+  -- a record's cell with a child more; any other stays as it is
   abbrev pub add-cell : ℕ → Place → Cell A → Cell A
   add-cell x y unused = unused
   add-cell x y (leaf-cell t a) = leaf-cell t a
@@ -170,6 +179,7 @@ abbrev pub new-root : Up → Place → Place → Place
 new-root top old new = new
 new-root (via k n b) old new = old
 
+-- the root after an insert: with nothing above the point, the record that took the child, or the new branching; else the old one
 abbrev pub insert-root : Plan → Point → Place → Place
 insert-root pl (holds upper up n) old = old
 insert-root pl clashes old = old
@@ -191,28 +201,33 @@ module _ {A : Type 0} where
   merge len st b (leaf-cell t a) = leaf-cell t a
   merge len st b (inner-cell len′ st′ rs) = inner-cell (len + suc len′) (take 8 (st ++ b ∷ st′)) rs
 
+  -- the one child left: a leaf stays as it is, a record is written with the joined prefix
   abbrev pub merge-into : (len : ℕ) (st : List ℕ) (b : ℕ) → Place → Cell A → Edits A
   merge-into len st b (leaf-place n) c = []
   merge-into len st b (inner-place k n) c = (inner-place k n, merge len st b c) ∷ []
 
+  -- a record left with two children or more is freed, then written at its home; one left with one is freed, and its prefix joined to that child's
   abbrev pub settle-refs : Store A → Home → (k n len : ℕ) (st : List ℕ) → Refs → Edits A
   settle-refs σ hm k n len st [] = (inner-place k n, inner-cell len st []) ∷ []
   settle-refs σ hm k n len st (e ∷ []) = (inner-place k n, unused) ∷ merge-into len st (e .0) (e .1) (σ (e .1))
   settle-refs σ hm k n len st (e ∷ e′ ∷ rs) = (inner-place k n, unused) ∷ (new-home hm k n (length (e ∷ e′ ∷ rs)), inner-cell len st (e ∷ e′ ∷ rs)) ∷ []
 
+  -- the same of a record that loses its child for b; any other cell writes nothing
   abbrev pub settle-cell : Store A → Home → (k n b : ℕ) → Cell A → Edits A
   settle-cell σ hm k n b unused = []
   settle-cell σ hm k n b (leaf-cell t a) = []
   settle-cell σ hm k n b (inner-cell len st rs) = settle-refs σ hm k n len st (cut-ref b rs)
 
+  -- what is then found from above: the one child left, or the record at its home
   abbrev pub settled : Store A → Home → (k n b : ℕ) → Place
   settled σ hm k n b = settle-place hm k n (cut-ref b (cell-refs (σ (inner-place k n))))
 
-  -- the writes of leaving the tag of a point out
+  -- the writes above a leaf that is left out: its record settled, and the one above that only where its child has moved
   abbrev pub delete-under : Store A → Home → (upper up : Up) → Edits A
   delete-under σ hm upper top = []
   delete-under σ hm upper (via k n b) = settle-cell σ hm k n b (σ (inner-place k n)) ++ relink-up σ upper (inner-place k n) (settled σ hm k n b)
 
+  -- the writes of leaving the tag of a point out
   abbrev pub delete-at : Store A → Home → Point → Edits A
   delete-at σ hm (holds upper up n) = (leaf-place n, unused) ∷ delete-under σ hm upper up
   delete-at σ hm clashes = []
@@ -225,6 +240,7 @@ module _ {A : Type 0} where
   under-root σ hm upper top old = none
   under-root σ hm upper (via k n b) old = some (new-root upper old (settled σ hm k n b))
 
+  -- and so by the point: a tag that is not held leaves the root as it was
   abbrev pub delete-root : Store A → Home → Point → Place → Option Place
   delete-root σ hm (holds upper up n) old = under-root σ hm upper up old
   delete-root σ hm clashes old = some old
@@ -233,6 +249,7 @@ module _ {A : Type 0} where
   delete-root σ hm broken old = some old
 
   -- ── a change of what is held ──
+  -- a leaf's cell with what it holds changed; any other stays as it is
   abbrev pub re-held : (A → A) → Cell A → Cell A
   re-held g unused = unused
   re-held g (leaf-cell t a) = leaf-cell t (g a)
@@ -246,11 +263,12 @@ module _ {A : Type 0} where
   alter-at σ g (fork up x w d c) = []
   alter-at σ g broken = []
 
-  -- the store of a tree, or of none, and its root
+  -- the store of a tree, or of none
   abbrev pub store-of : Option (Tree A) → Store A
   store-of none = empty
   store-of (some t) = store t []
 
+  -- the place of its first record, if there is a tree
   abbrev pub root-of : Option (Tree A) → Option Place
   root-of none = none
   root-of (some t) = some (root t)
@@ -269,6 +287,7 @@ module _ {A : Type 0} where
     pub parent : InnerAt σ k n len rs
     pub child : find-ref rs b ≡ some y
 
+  -- the way from the record above leads to the place; at the root nothing is asked
   abbrev pub UpFits : Store A → Up → Place → Type 0
   UpFits σ top y = Unit {0}
   UpFits σ (via k n b) y = ChildAt σ k n b y
@@ -278,12 +297,14 @@ module _ {A : Type 0} where
   UpperFits σ upper top = upper ≡ top
   UpperFits σ upper (via k n b) = UpFits σ upper (inner-place k n)
 
+  -- the leaf has the tag, and the ways down lead to it and to the record above it
   pub record HoldsFits (σ : Store A) (s : Tag) (upper up : Up) (n : ℕ) : Type 0 where
     pub held : A
     pub shown : σ (leaf-place n) ≡ leaf-cell s held
     pub above : UpFits σ up (leaf-place n)
     pub upper-above : UpperFits σ upper up
 
+  -- the record has no child for x, which is a byte of the tag; the way down leads to the record
   pub record IntoFits (σ : Store A) (s : Tag) (up : Up) (k n x : ℕ) : Type 0 where
     pub len : ℕ
     pub rs : Refs
@@ -294,11 +315,12 @@ module _ {A : Type 0} where
     pub byte : getD s depth 0 ≡ x
     pub above : UpFits σ up (inner-place k n)
 
-  -- the run is longer than what agrees of it
+  -- a leaf is w itself; a record's run is longer than what agrees of it
   abbrev pub RunFits : Store A → Place → (w c : ℕ) → Type 0
   RunFits σ (leaf-place n) w c = w ≡ n
   RunFits σ (inner-place k n) w c = (len : ℕ) × (rs : Refs) × InnerAt σ k n len rs × (c < len)
 
+  -- the tag and that of leaf w agree in d + c bytes and differ in the next; y goes on past them, and the way down leads to it
   pub record ForkFits (σ : Store A) (s : Tag) (up : Up) (y : Place) (w d c : ℕ) : Type 0 where
     pub inside : d + c < length s
     pub inside-leaf : d + c < length (tag-at σ w)
@@ -307,6 +329,7 @@ module _ {A : Type 0} where
     pub run : RunFits σ y w c
     pub above : UpFits σ up y
 
+  -- what the point says of the store is so: a clash says nothing, and no store fits a broken one
   abbrev pub PointFits : Store A → Tag → Point → Type 0
   PointFits σ s (holds upper up n) = HoldsFits σ s upper up n
   PointFits σ s clashes = Unit {0}

@@ -7,6 +7,7 @@ use native.Mathlib.Decide.{ℕ-discrete}
 use Rattle.art.specs.Tags.{Order, order, below, equal, above}
 use Rattle.art.specs.Stores.{Place, place-dec, Cell, unused, leaf-cell, inner-cell, Edits}
 
+-- bytes ascending, each with the place of its child
 abbrev pub Refs : Type 0
 Refs = List (ℕ × Place)
 
@@ -26,6 +27,7 @@ add-ref-by b y e (below h) rs more = (b, y) ∷ e ∷ rs
 add-ref-by b y e (equal h) rs more = e ∷ rs
 add-ref-by b y e (above h) rs more = e ∷ more
 
+-- by the order of b and the first byte; a child for b that is there stays
 abbrev pub add-ref : ℕ → Place → Refs → Refs
 add-ref b y [] = (b, y) ∷ []
 add-ref b y (e ∷ rs) = add-ref-by b y e (order b (e .0)) rs (add-ref b y rs)
@@ -36,6 +38,7 @@ pair-ref-by x y (below h) t u = (x, t) ∷ (y, u) ∷ []
 pair-ref-by x y (equal h) t u = (x, t) ∷ []
 pair-ref-by x y (above h) t u = (y, u) ∷ (x, t) ∷ []
 
+-- the two children x and y, by the order of their bytes
 abbrev pub pair-ref : ℕ → Place → ℕ → Place → Refs
 pair-ref x t y u = pair-ref-by x y (order x y) t u
 

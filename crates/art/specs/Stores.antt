@@ -116,6 +116,7 @@ module _ {A : Type 0} where
     Once (leaf n s a) p = Unit {0}
     Once (inner k n run r) p = (store-row r (p ++ run) (inner-place k n) ≡ unused) × OnceRow r (p ++ run)
 
+    -- nor in a row: in none of its trees, and no two of them share one
     pub OnceRow : Row A → Tag → Type 0
     OnceRow end q = Unit {0}
     OnceRow (child b t r) q = Once t (q ++ b ∷ []) × Disjoint (store t (q ++ b ∷ [])) (store-row r q) × OnceRow r q

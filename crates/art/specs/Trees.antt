@@ -10,6 +10,7 @@ mutual
     leaf : (number : ℕ) (rest : Tag) (held : A) → Tree A
     inner : (kind number : ℕ) (run : Tag) (row : Row A) → Tree A
 
+  -- the children of a branching: each has a byte, and the tree below it
   pub data Row (A : Type 0) : Type 0 where
     end : Row A
     child : (byte : ℕ) (tree : Tree A) (row : Row A) → Row A
@@ -50,6 +51,7 @@ module _ {A : Type 0} where
     Good (leaf n s a) = Unit {0}
     Good (inner k n run r) = Many r × GoodRow r
 
+    -- each child is good, and its byte is below those after it
     pub GoodRow : Row A → Type 0
     GoodRow end = Unit {0}
     GoodRow (child b t r) = Good t × Above b r × GoodRow r

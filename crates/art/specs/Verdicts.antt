@@ -26,7 +26,7 @@ graver clash clash = clash
 graver clash free = clash
 graver free w = w
 
--- at a record: a clash where the run is not ended, free where the tag parts from it
+-- at a record: a clash where the tag ends within the run or with it, free where it parts from it, else by the next byte
 abbrev pub judge-inner : {s run : Tag} → Meet s run → (ℕ → Tag → Verdict) → Verdict
 judge-inner (same e) rec = clash
 judge-inner (short y v e) rec = clash

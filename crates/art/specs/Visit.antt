@@ -123,6 +123,7 @@ module _ (link : ℕ → ℕ → Bool) where
       Passes (leaf n s a) z = (¬ In (leaf-place n) (z .seen)) × (link (z .prev) n ≡ true)
       Passes (inner k n run r) z = (¬ In (inner-place k n) (z .seen)) × PassesRow r (marked (inner-place k n) z)
 
+      -- and so for a row, each child from the state after those before it
       pub PassesRow : Row A → State → Type 0
       PassesRow end z = Unit {0}
       PassesRow (child b t r) z = Passes t z × PassesRow r (passed t z)

@@ -38,6 +38,7 @@ module _ {A : Type 0} where
     Shows (leaf n s a) p σ = σ (leaf-place n) ≡ leaf-cell (p ++ s) a
     Shows (inner k n run r) p σ = (σ (inner-place k n) ≡ inner-cell (length run) (take 8 run) (refs r)) × ShowsRow r (p ++ run) σ
 
+    -- and so for each child of a row, below the path q and its byte
     pub ShowsRow : Row A → Tag → Store A → Type 0
     ShowsRow end q σ = Unit {0}
     ShowsRow (child b t r) q σ = Shows t (q ++ b ∷ []) σ × ShowsRow r q σ

@@ -31,9 +31,11 @@ pub record Ample (c1 c2 c3 c4 c5 : ℕ) : Type 0 where
   pub threes : (c5 - 1) / 16 ≤ c3
   pub fours : (c5 - 1) / 48 ≤ c4
 
+-- the capacities that a frame has are such
 abbrev pub AmpleFrame : Frame → Type 0
 AmpleFrame f = Ample (cap f 1) (cap f 2) (cap f 3) (cap f 4) (cap f 5)
 
+-- those that start is given are such
 abbrev pub AmpleCaps : Caps → Type 0
 AmpleCaps c = Ample (c .c1) (c .c2) (c .c3) (c .c4) (c .c5)
 
@@ -52,6 +54,7 @@ AmpleCall (calls.first-at-or-after t) s = Unit {0}
 AmpleCall (calls.insert t total) s = Unit {0}
 AmpleCall (calls.delete t) s = Unit {0}
 
+-- each start among these calls that is accepted, on the block that those before it leave, has such capacities
 abbrev pub AmpleStarts : Block → List Turn → Type 0
 AmpleStarts b [] = Unit {0}
 AmpleStarts b (t ∷ ts) = AmpleCall (t .call) (lent b t) × AmpleStarts (next b t) ts

@@ -13,10 +13,11 @@ use Rattle.edits.specs.declared.representation.Change.{Change}
 use Rattle.edits.specs.declared.representation.Change.the-variants.{Add, Remove, Replace}
 
 -- ── kinds 1 and 2, with k places of which n are used ──
--- where a byte goes, and where it is
+-- where a byte goes: the place of the first that is not below it, or after the last
 abbrev pub placeFor : List ℕ → ℕ → ℕ → ℕ
 placeFor body n byte = first (atLeast byte) (between body 0 n)
 
+-- where it is, or after the last where it is not
 abbrev pub placeOf : List ℕ → ℕ → ℕ → ℕ
 placeOf body n byte = first (is byte) (between body 0 n)
 
@@ -59,6 +60,7 @@ slotChange body byte Remove = slotRemove body byte
 slotChange body byte (Replace ref) = slotReplace body byte ref
 
 -- ── every kind: 1 and 2, 3, and 4, where a byte has its own place ──
+-- by the kind; in kind 4 what stands for the byte afterwards is written at the byte's own place
 unfoldable pub bodyChange : ℕ → List ℕ → ℕ → ℕ → Change → List ℕ
 bodyChange kind body n byte change =
     choose (leb kind 2) (sortedChange (childrenOf kind) body n byte change) (choose (eqb kind 3) (slotChange body byte change) (set body byte (refIn change)))
@@ -73,21 +75,25 @@ tab (suc m) b g = g b ∷ tab m (suc b) g
 abbrev pub rowSpread : List (ℕ × ℕ) → List ℕ
 rowSpread row = tab 256 0 (λ b. refFor b row)
 
+-- those of a body of kind 1 or 2, with k places of which n are used
 unfoldable pub sortedSpread : ℕ → List ℕ → ℕ → List ℕ
 sortedSpread k body n = rowSpread (sortedRow k body n)
 
+-- those of a body of kind 3: for each byte what its slot number names
 unfoldable pub slotSpread : List ℕ → List ℕ
 slotSpread body = spread (between body 256 304) (between body 0 256)
 
+-- by the kind; a body of kind 4 is these 256 places
 unfoldable pub bodySpread : ℕ → List ℕ → ℕ → List ℕ
 bodySpread kind body n = choose (leb kind 2) (sortedSpread (childrenOf kind) body n) (choose (eqb kind 3) (slotSpread body) body)
 
 -- ── the body of a row ──
--- its bytes, and its references
+-- its bytes
 abbrev pub bytesOf : List (ℕ × ℕ) → List ℕ
 bytesOf [] = []
 bytesOf (e ∷ es) = e .0 ∷ bytesOf es
 
+-- its references
 abbrev pub refsOf : List (ℕ × ℕ) → List ℕ
 refsOf [] = []
 refsOf (e ∷ es) = e .1 ∷ refsOf es
@@ -109,6 +115,7 @@ slotBody row = tab 256 0 (λ b. slotFor b row) ++ padded 48 (refsOf row)
 abbrev pub sortedPut : ℕ → ℕ → ℕ → ℕ → List ℕ → List ℕ
 sortedPut k i byte ref body = set (set body i byte) (k + i) ref
 
+-- and so in kind 3, where it takes slot i + 1
 abbrev pub slotPut : ℕ → ℕ → ℕ → List ℕ → List ℕ
 slotPut i byte ref body = set (set body byte (i + 1)) (256 + i) ref
 

@@ -10,5 +10,6 @@ use Rattle.frames.specs.declared.form.Form.{Form}
 unfoldable pub setPrefix : Form → Prefix → List ℕ → List ℕ
 setPrefix form p rec = splice (set rec 2 (p .full .0)) (3 + form .counts) (3 + form .counts + 8) (p .stored)
 
+-- kind and child count in words 0 and 1, and the prefix
 unfoldable pub setHead : Form → ℕ → ℕ → Prefix → List ℕ → List ℕ
 setHead form kind n p rec = setPrefix form p (set (set rec 0 kind) 1 n)

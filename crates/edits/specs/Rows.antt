@@ -22,6 +22,7 @@ rowInsertBy b r e (below h) es more = (b, r) ∷ e ∷ es
 rowInsertBy b r e (equal h) es more = e ∷ es
 rowInsertBy b r e (above h) es more = e ∷ more
 
+-- by the order of b and the first byte; a child for b that is there stays
 abbrev pub rowInsert : ℕ → ℕ → Row → Row
 rowInsert b r [] = (b, r) ∷ []
 rowInsert b r (e ∷ es) = rowInsertBy b r e (order b (e .0)) es (rowInsert b r es)

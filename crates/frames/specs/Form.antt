@@ -16,10 +16,11 @@ forms = record { number = 1; prefix = 8; counts = 0; limit = 64 } ∷ []
 abbrev pub noForm : Form
 noForm = record { number = 0; prefix = 0; counts = 0; limit = 0 }
 
--- the form of a number, where there is one
+-- a form has this number; they are numbered from 1
 unfoldable pub formKnown : ℕ → Bool
 formKnown number = leb 1 number && leb number (length forms)
 
+-- the form of a number, where there is one
 unfoldable pub formOf : ℕ → Form
 formOf number = getD forms (number - 1) noForm
 
@@ -35,6 +36,7 @@ recordWords form kind = header form + bodyWords kind
 abbrev pub sizesOf : Form → Sizes
 sizesOf form = record { z1 = recordWords form 1; z2 = recordWords form 2; z3 = recordWords form 3; z4 = recordWords form 4; z5 = 6 }
 
+-- a record of any pool has 512 words or fewer
 pub record SmallSizes (z : Sizes) : Type 0 where
   pub s1 : z .z1 ≤ 512
   pub s2 : z .z2 ≤ 512

@@ -21,6 +21,7 @@ capsOf t = record { c1 = getD t 6 0; c2 = getD t 7 0; c3 = getD t 8 0; c4 = getD
 abbrev pub capsSmall : Caps → Bool
 capsSmall c = leb (c .c1) 4096 && leb (c .c2) 4096 && leb (c .c3) 4096 && leb (c .c4) 4096 && leb (c .c5) 4096
 
+-- the same as facts, one for each capacity
 pub record SmallCaps (c : Caps) : Type 0 where
   pub s1 : c .c1 ≤ 4096
   pub s2 : c .c2 ≤ 4096
@@ -64,13 +65,15 @@ trailerOf words = between words (length words - 16) (length words)
 unfoldable pub frameFits : List ℕ → List ℕ → Bool
 frameFits words keys = leb 16 (length words) && trailerFits (trailerOf words) (length words) (length keys)
 
--- by the kind of a reference (0 none, 1 to 4, 5 leaves, 6 and 7 none): the capacity, a record's words and the pool's first word
+-- by the kind of a reference (0 none, 1 to 4, 5 leaves, 6 and 7 none): how many records its pool has
 abbrev pub capsList : Caps → List ℕ
 capsList c = 0 ∷ c .c1 ∷ c .c2 ∷ c .c3 ∷ c .c4 ∷ c .c5 ∷ 0 ∷ 0 ∷ []
 
+-- by the same: how many words a record of the pool has
 abbrev pub sizesList : Sizes → List ℕ
 sizesList z = 0 ∷ z .z1 ∷ z .z2 ∷ z .z3 ∷ z .z4 ∷ z .z5 ∷ 0 ∷ 0 ∷ []
 
+-- by the same: the pool's first word
 abbrev pub startsList : Sizes → Caps → List ℕ
 startsList z c =
     0
@@ -83,6 +86,7 @@ startsList z c =
     ∷ 0
     ∷ []
 
+-- the frame that a form, sizes and capacities give
 abbrev pub frameWith : Form → Sizes → Caps → Frame
 frameWith form z c = record { form = form; sizes = sizesList z; caps = capsList c; starts = startsList z c }
 
@@ -103,16 +107,19 @@ pub record Framed (f : Frame) : Type 0 where
   pub small-sizes : SmallSizes sizes
   pub small-caps : SmallCaps caps
 
--- what the trailer says beside the frame
+-- what the trailer says beside the frame: the reference to the root, in its word 11
 abbrev pub rootWord : List ℕ → ℕ
 rootWord words = getD (trailerOf words) 11 0
 
+-- the reference to the first leaf of the list, in word 12
 abbrev pub firstWord : List ℕ → ℕ
 firstWord words = getD (trailerOf words) 12 0
 
+-- the reference to the last, in word 13
 abbrev pub lastWord : List ℕ → ℕ
 lastWord words = getD (trailerOf words) 13 0
 
+-- the number of tags, in word 14
 abbrev pub countWord : List ℕ → ℕ
 countWord words = getD (trailerOf words) 14 0
 

@@ -24,9 +24,11 @@ noRow = record { children = 0; words = 0; mark = 0 }
 unfoldable pub kindRow : ℕ → KindRow
 kindRow kind = getD kindTable (kind - 1) noRow
 
+-- the most children that a record of the kind holds
 abbrev pub childrenOf : ℕ → ℕ
 childrenOf kind = kindRow kind .children
 
+-- a record of the kind that is left with so many children or fewer may shrink
 abbrev pub markOf : ℕ → ℕ
 markOf kind = kindRow kind .mark
 

@@ -14,6 +14,7 @@ use Rattle.art.specs.Stores.{Place, leaf-place, inner-place}
 abbrev pub placeAt : ℕ → Place
 placeAt ref = choose (eqb (ref % 8) 5) (leaf-place (ref / 8)) (inner-place (ref % 8) (ref / 8))
 
+-- the reference that names a place, by the same rule
 abbrev pub refOf : Place → ℕ
 refOf (leaf-place n) = n * 8 + 5
 refOf (inner-place k n) = n * 8 + k
@@ -23,15 +24,17 @@ abbrev pub inPool : Frame → Place → Bool
 inPool f (leaf-place n) = ltb n (getD (f .caps) 5 0)
 inPool f (inner-place k n) = leb k 4 && ltb n (getD (f .caps) k 0)
 
--- its first word, and its words
+-- the first word of the record at a place
 abbrev pub startAt : Frame → Place → ℕ
 startAt f (leaf-place n) = getD (f .starts) 5 0 + n * getD (f .sizes) 5 0
 startAt f (inner-place k n) = getD (f .starts) k 0 + n * getD (f .sizes) k 0
 
+-- how many words it has
 abbrev pub sizeAt : Frame → Place → ℕ
 sizeAt f (leaf-place n) = 6
 sizeAt f (inner-place k n) = recordWords (f .form) k
 
+-- those words
 abbrev pub recordAt : Frame → List ℕ → Place → List ℕ
 recordAt f words x = between words (startAt f x) (startAt f x + sizeAt f x)
 

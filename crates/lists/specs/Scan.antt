@@ -9,16 +9,19 @@ abbrev pub choose : {A : Type 0} → Bool → A → A → A
 choose true a b = a
 choose false a b = b
 
--- tests of one number
+-- tests of one number: it equals a
 abbrev pub is : ℕ → ℕ → Bool
 is a x = eqb x a
 
+-- it is b or less
 abbrev pub atMost : ℕ → ℕ → Bool
 atMost b x = leb x b
 
+-- it is b or more
 abbrev pub atLeast : ℕ → ℕ → Bool
 atLeast b x = leb b x
 
+-- it is not 0
 abbrev pub nonzero : ℕ → Bool
 nonzero x = ltb 0 x
 

@@ -41,7 +41,7 @@ pub record IntoThere (f : Frame) (words : List ℕ) (up : Up) (ref : ℕ) : Type
   pub here : InnerHere f words (placeAt ref)
   pub above : UpThere f words up
 
--- the tag parts from the leaf's within both
+-- the place that a new branching goes above, the leaf, and the record above; the tag goes on past the bytes that agree
 pub record ForkThere (f : Frame) (words keys tag : List ℕ) (up : Up) (ref leaf d c : ℕ) : Type 0 where
   pub pool : inPool f (placeAt ref) ≡ true
   pub seen : LeafSeen f words keys leaf

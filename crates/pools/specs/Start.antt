@@ -49,6 +49,7 @@ pub record Out : Type 0 where
   pub words : List ℕ
   pub keys : List ℕ
 
+-- this answer, with these words and key bytes
 abbrev pub out : Started → List ℕ → List ℕ → Out
 out a w k = record { answer = a; words = w; keys = k }
 

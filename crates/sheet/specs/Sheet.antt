@@ -28,10 +28,12 @@ use Rattle.delete.specs.Answer as deleted
 use Rattle.delete.specs.Delete as delete
 
 -- ── what is written in the table ──
+-- the codes of a text's characters
 abbrev pub bytes : String → List ℕ
 bytes empty = []
 bytes (c then s) = code c ∷ bytes s
 
+-- the calls of the sheet, and the question what the block draws
 pub data Call : Type 0 where
   starting : Caps → Call
   inserting : (tag : String) (total : ℕ) → Call
@@ -49,11 +51,13 @@ pub data Given : Type 0 where
   drawn : Drawing Held → Given
 
 -- ── what the calls give ──
+-- the slices that a call is lent
 pub record Block : Type 0 where
   pub words : List ℕ
   pub keys : List ℕ
   pub scratch : List ℕ
 
+-- these three slices
 abbrev pub block : (words keys scratch : List ℕ) → Block
 block w k s = record { words = w; keys = k; scratch = s }
 
@@ -70,17 +74,20 @@ abbrev pub soundness : Block → ℕ
 soundness b = check.numberOf (check.checkOf (b .words) (b .keys) (b .scratch) .result)
 
 -- ── a call's step ──
+-- a reading call gives its answer's number, leaf and total
 abbrev pub foundGiven : Found → Given
 foundGiven a = found (foundNumber a) (foundLeaf a) (foundTotal a)
 
+-- and so does first at or after
 abbrev pub afterGiven : After → Given
 afterGiven a = found (range.numberOf a) (range.leafOf a) (range.totalIn a)
 
--- the tree that the words show, drawn; no tree draws nothing
+-- what a tree draws from the empty path on; no tree draws nothing
 abbrev pub drawnTree : Option (Tree Held) → Drawing Held
 drawnTree none = nothing
 drawnTree (some t) = erase [] t
 
+-- what the tree draws that is read from the root on
 abbrev pub drawnIn : Frame → Block → Drawing Held
 drawnIn f b = drawnTree (tree-of (read (f .form .limit) (cellOf f (b .words) (b .keys)) [] (placeAt (rootWord (b .words)))))
 
@@ -89,15 +96,19 @@ pub record Step : Type 0 where
   pub left : Block
   pub given : Given
 
+-- a changing call leaves this block, and gives its number and total with what the check then says
 abbrev pub changing : ℕ → ℕ → Block → Step
 changing n t b = record { left = b; given = changed n t (soundness b) }
 
+-- start gives no total and is lent no scratch, which stays as it was
 abbrev pub startingOf : Block → starts.Out → Step
 startingOf b o = changing (starts.startNumber (o .answer)) 0 (block (o .words) (o .keys) (b .scratch))
 
+-- insert gives the number and the total of its answer, and leaves all three slices
 abbrev pub insertingOf : insert.Out → Step
 insertingOf o = changing (inserted.numberOf (o .answer)) (inserted.totalIn (o .answer)) (block (o .words) (o .keys) (o .scratch))
 
+-- and so does delete
 abbrev pub deletingOf : delete.Out → Step
 deletingOf o = changing (deleted.numberOf (o .answer)) (deleted.totalIn (o .answer)) (block (o .words) (o .keys) (o .scratch))
 
@@ -118,13 +129,16 @@ abbrev pub Line : Type 0
 Line = Call × Given
 
 infix 80 _gives_
+-- a line, written as it is read
 abbrev pub _gives_ : Call → Given → Line
 c gives g = (c, g)
 
+-- the letter of a row, and its lines in order
 pub record Row : Type 0 where
   pub letter : Char
   pub lines : List Line
 
+-- a row with this letter and these lines
 abbrev pub row : Char → List Line → Row
 row c ls = record { letter = c; lines = ls }
 
@@ -133,31 +147,38 @@ unfoldable pub givenFrom : Block → List Line → List Given
 givenFrom b [] = []
 givenFrom b (l ∷ ls) = let s = step b (l .0) in s .given ∷ givenFrom (s .left) ls
 
+-- what they must give, line by line
 unfoldable pub wantedOf : List Line → List Given
 wantedOf [] = []
 wantedOf (l ∷ ls) = l .1 ∷ wantedOf ls
 
+-- what each row gives, by its letter; every row begins with a block that is not yet made
 unfoldable pub given : List Row → List (Char × List Given)
 given [] = []
 given (r ∷ rs) = (r .letter, givenFrom unmade (r .lines)) ∷ given rs
 
+-- what each row must give, by its letter
 unfoldable pub wanted : List Row → List (Char × List Given)
 wanted [] = []
 wanted (r ∷ rs) = (r .letter, wantedOf (r .lines)) ∷ wanted rs
 
--- an accepted change returns the old total, 0 for a new tag; a refusal has its number alone; both leave a sound block
+-- an accepted change gives the old total, 0 where there was none, and leaves a sound block
 abbrev pub accepted : ℕ → Given
 accepted total = changed 0 total 0
 
+-- a refusal gives its number and no total, and leaves a sound block
 abbrev pub refused : ℕ → Given
 refused number = changed number 0 0
 
+-- the tag is found in this leaf, with this total
 abbrev pub held : (leaf total : ℕ) → Given
 held leaf total = found 0 leaf total
 
+-- no such tag is found: number 1, with 0 for the leaf and the total
 abbrev pub missing : Given
 missing = found 1 0 0
 
+-- the capacities of the five pools in order, kinds 1 to 4 and leaves
 abbrev pub caps : (a b c d e : ℕ) → Caps
 caps a b c d e = record { c1 = a; c2 = b; c3 = c; c4 = d; c5 = e }
 
@@ -174,13 +195,15 @@ leaf t n total = one (bytes t) (record { number = n; total = total })
 abbrev pub fork : ℕ → String → Char → Drawing Held → Char → Drawing Held → Drawing Held
 fork len stored b x c y = branch len (bytes stored) (kid (code b) x (kid (code c) y done))
 
--- the two long tags' leaves, and their drawing
+-- the first long tag's leaf: number 0, total 1
 abbrev pub long-1 : Drawing Held
 long-1 = leaf "ABCDEFGHIJ1" 0 1
 
+-- the second's: number 1, total 2
 abbrev pub long-2 : Drawing Held
 long-2 = leaf "ABCDEFGHIJ2" 1 2
 
+-- the two draw a run of ten bytes, of which eight are stored
 abbrev pub drawing-long : Drawing Held
 drawing-long = fork 10 "ABCDEFGH" "1" long-1 "2" long-2
 
@@ -310,6 +333,7 @@ lines-l =
     ∷ inserting "E" 5 gives accepted 0
     ∷ []
 
+-- the whole sheet, a row for each letter
 unfoldable pub rows : List Row
 rows =
     row "a" lines-a

@@ -11,6 +11,7 @@ use Rattle.art.specs.Stores.{Place, Store, Used, unused}
 use Rattle.art.specs.Chain.{Links}
 use Rattle.view.specs.Links.{linksOf}
 
+-- the block shows these cells, links, root and count; its used records obey their rules, its free ones are blank
 pub record State (f : Frame) (words keys : List ℕ) (σ : Store Held) (links : Links) (root count : ℕ) : Type 0 where
   pub frame : FrameOf f words keys
   pub cells : cellOf f words keys ≡ σ

@@ -8,11 +8,12 @@ use Rattle.records.specs.View.{cellOf, ruleAt, blankAt}
 use Rattle.frames.specs.declared.frame.Frame.{Frame}
 use Rattle.art.specs.Stores.{Place, leaf-place, inner-place}
 
--- a place's pool and its number there, leaves being kind 5
+-- a place's pool, leaves being kind 5
 abbrev pub kindAt : Place → ℕ
 kindAt (leaf-place n) = 5
 kindAt (inner-place k n) = k
 
+-- its number there
 abbrev pub numberAt : Place → ℕ
 numberAt (leaf-place n) = n
 numberAt (inner-place k n) = n

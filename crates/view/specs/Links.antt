@@ -16,7 +16,7 @@ use Rattle.art.specs.Chain.{Links, leaf-ref}
 abbrev pub UsedOrEnd : Frame → List ℕ → List ℕ → ℕ → Type 0
 UsedOrEnd f words keys ref = (ref ≡ 0) ⊎ ((n : ℕ) × (ref ≡ leaf-ref n) × Used (cellOf f words keys (leaf-place n)))
 
--- the two directions of the list: on, by word 12 of the trailer and word 3 of a leaf, and back, by words 13 and 2
+-- the two directions of the list: on, by word 12 of the trailer and word 3 of a leaf, and back, by words 13 and 2; of each word only that it is one of its two
 pub record Direction (t i : ℕ) : Type 0 where
   pub trailer-low : 12 ≤ t
   pub trailer-high : t ≤ 13

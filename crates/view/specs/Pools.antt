@@ -9,7 +9,7 @@ use Rattle.frames.specs.declared.frame.Frame.{Frame}
 use Rattle.art.specs.Stores.{inner-place}
 use Rattle.view.specs.Cells.{wordZero}
 
--- the lowest free record, of the smallest kind that has one
+-- the lowest free record, of the smallest kind from one on that has one
 pub record FreeAt (f : Frame) (words : List ℕ) (kind k n : ℕ) : Type 0 where
   pub from : kind ≤ k
   pub pool : inPool f (inner-place k n) ≡ true

@@ -23,6 +23,7 @@ keyIn f n tag keys = putKey f keys n (padded (f .form .limit) tag)
 unfoldable pub leafOut : Frame → (n previous next : ℕ) → List ℕ → List ℕ
 leafOut f n previous next words = putAt f (setPrevious f next previous (setNext f previous next words)) (leaf-place n) (replicate 6 0)
 
+-- its key bytes, all 0
 unfoldable pub keyOut : Frame → ℕ → List ℕ → List ℕ
 keyOut f n keys = putKey f keys n (replicate (f .form .limit) 0)
 
