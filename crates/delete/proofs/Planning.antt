@@ -17,7 +17,6 @@ use Rattle.frames.proofs.KindTable.{by-kind}
 use Rattle.records.specs.Row.{rowAt, entryAt, lastEntry}
 use Rattle.records.specs.declared.representation.Entry.{Entry}
 use Rattle.records.specs.declared.representation.Entry.the-variants.{Child}
-use Rattle.art.specs.Stores.{Place, leaf-place}
 use Rattle.pools.specs.Pool.{lowestFree}
 use Rattle.points.specs.Point.{pointOf}
 use Rattle.points.specs.declared.insert_point.Up.{Up}
@@ -91,12 +90,6 @@ module _ (f : Frame) (words : List ℕ) (upper : Up) (ref byte : ℕ) {n : ℕ} 
     under-stay h = under-by (lt-leb n 2 l) (lt-leb n (markOf (ref % 8) + 1) (omega (arith, mark)))
 
 -- ---- the leaf that holds the tag
-pub gap-by : (f : Frame) (words : List ℕ) (n : ℕ) {x : Place} {p q : ℕ} → x ≡ leaf-place n → p ≡ getD (recordAt f words x) 2 0 → q ≡ getD (recordAt f words x) 3 0
-    → _≡_ {A = Gap} (record { previous = p; next = q }) (gapOf f words n)
-gap-by f words n {q = q} e a b =
-    ap (λ (r : ℕ). record { previous = r; next = q }) (a ∙ ap (λ (y : Place). getD (recordAt f words y) 2 0) e)
-    ∙ ap (λ (r : ℕ). record { previous = getD (recordAt f words (leaf-place n)) 2 0; next = r }) (b ∙ ap (λ (y : Place). getD (recordAt f words y) 3 0) e)
-
 pub out-by : (f : Frame) (words : List ℕ) (upper up : Up) (leaf : ℕ) {cut : Cut} {gap : Gap} → cut ≡ cutOf f words upper up → gap ≡ gapOf f words (leaf / 8)
     → Take cut (leaf / 8) gap ≡ pointPlan f words (point.Holds upper up leaf)
 unfolding pointPlan

@@ -8,6 +8,7 @@ use Rattle.frames.specs.Kind.{markOf}
 use Rattle.frames.specs.Frame.{rootWord}
 use Rattle.frames.specs.Place.{placeAt, refOf, recordAt}
 use Rattle.frames.specs.declared.frame.Frame.{Frame}
+use Rattle.records.specs.Words.{childCount, previousLeaf, nextLeaf}
 use Rattle.records.specs.Row.{rowAt, entryAt, lastEntry}
 use Rattle.records.specs.declared.representation.Entry.{Entry}
 use Rattle.records.specs.declared.representation.Entry.the-variants.{Child, Nothing}
@@ -49,8 +50,8 @@ shrinkCut f words upper ref byte =
 unfoldable pub cutUnder : Frame → List ℕ → Up → ℕ → ℕ → Cut
 cutUnder f words upper ref byte =
     let rec = recordAt f words (placeAt ref) in
-    choose (leb (getD rec 1 0) 2) (mergeCut upper ref byte (otherEntry byte (rowAt (f .form) (ref % 8) rec)))
-    (choose (leb (getD rec 1 0) (markOf (ref % 8) + 1)) (shrinkCut f words upper ref byte) (Stay ref byte))
+    choose (leb (childCount rec) 2) (mergeCut upper ref byte (otherEntry byte (rowAt (f .form) (ref % 8) rec)))
+    (choose (leb (childCount rec) (markOf (ref % 8) + 1)) (shrinkCut f words upper ref byte) (Stay ref byte))
 
 -- a leaf with nothing above it is the root
 abbrev pub cutOf : Frame → List ℕ → Up → Up → Cut
@@ -60,7 +61,7 @@ cutOf f words upper (Via ref byte) = cutUnder f words upper ref byte
 -- ── the leaf ──
 -- its neighbours in the list
 abbrev pub gapOf : Frame → List ℕ → ℕ → Gap
-gapOf f words n = record { previous = getD (recordAt f words (leaf-place n)) 2 0; next = getD (recordAt f words (leaf-place n)) 3 0 }
+gapOf f words n = record { previous = previousLeaf (recordAt f words (leaf-place n)); next = nextLeaf (recordAt f words (leaf-place n)) }
 
 -- by the point: held, or not
 unfoldable pub pointPlan : Frame → List ℕ → Point → Plan

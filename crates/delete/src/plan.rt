@@ -19,6 +19,7 @@ use points::insert_point::Point;
 use points::insert_point::Up;
 use points::places;
 use pools::pools::lowest_free;
+use records::leaf_node;
 use records::representation;
 use records::representation::Entry;
 use writes::leaf_node::Gap;
@@ -87,7 +88,7 @@ fn cut_under(words: &[u32], keys: &[u8], f: Frame, upper: Up, reference: u32, by
     requires { ⌜ FrameOf f (now words) (now keys) × InnerHere f (now words) (placeAt reference) ⌝ }
     ensures { λ r. ⌜ r ≡ cutUnder f (now (words .entry)) upper reference byte ⌝ }
 {
-    let n = places::word_at(words, keys, f, reference, 1);
+    let n = places::children_at(words, keys, f, reference);
     if n <= 2 {
         return merge_cut(words, keys, f, upper, reference, byte);
     }
@@ -114,10 +115,10 @@ fn gap_of(words: &[u32], keys: &[u8], f: Frame, n: u32) -> Gap
     requires { ⌜ FrameOf f (now words) (now keys) × (inPool f (leaf-place n) ≡ true) ⌝ }
     ensures { λ r. ⌜ r ≡ gapOf f (now (words .entry)) n ⌝ }
 {
-    let leaf = places::reference_to(frame::LEAF, n as usize);
+    let rec = places::leaf_at(words, keys, f, n);
     Gap {
-        previous: places::word_at(words, keys, f, leaf, 2),
-        next: places::word_at(words, keys, f, leaf, 3),
+        previous: leaf_node::previous(rec),
+        next: leaf_node::next(rec),
     }
 }
 

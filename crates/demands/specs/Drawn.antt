@@ -31,7 +31,7 @@ plain-of (some t) = some (plain t)
 abbrev pub drawing : Option (Tree Held) → Drawing ℕ
 drawing d = drawn (plain-of d)
 
--- ── inner records in use: those whose word 0 is not 0 ──
+-- ── inner records in use: those that are not free ──
 -- of a kind, with a number below n
 abbrev pub usedBelow : Frame → List ℕ → ℕ → ℕ → ℕ
 usedBelow f words k zero = 0

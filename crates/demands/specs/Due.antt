@@ -6,13 +6,14 @@ use mathlib.Core.Logic.{_≢_}
 use mathlib.Core.List.{List}
 use mathlib.Core.Option.{none, some}
 use mathlib.Core.Bool.{Bool, true, false, _&&_}
-use lib.ListN.{length, getD}
+use lib.ListN.{length}
 use lib.Dec.{eqb}
 use Rattle.frames.specs.Form.{formOf}
 use Rattle.frames.specs.Frame.{frameFits, frame}
 use Rattle.frames.specs.Place.{placeAt, inPool, recordAt}
 use Rattle.frames.specs.declared.frame.Caps.{Caps}
 use Rattle.frames.specs.declared.frame.Frame.{Frame}
+use Rattle.records.specs.Words.{usedAs, nextLeaf}
 use Rattle.records.specs.View.{Held, ruleAt}
 use Rattle.art.specs.Tags.{Tag, Listing, exact, begin}
 use Rattle.art.specs.Listings.{find, lookup}
@@ -60,22 +61,22 @@ abbrev pub holds : {words keys : List ℕ} → Sound words keys → Listing Held
 holds s = held (s .tree)
 
 -- ── a leaf number ──
--- a leaf of the pool whose word 0 is not 0
+-- a leaf of the pool that is not free
 pub record InUse (s : Slices) (n : ℕ) : Type 0 where
   pub fits : Fitting s
   pub pool : inPool (frame (s .words)) (leaf-place n) ≡ true
-  pub used : getD (recordAt (frame (s .words)) (s .words) (leaf-place n)) 0 0 ≢ 0
+  pub used : usedAs (recordAt (frame (s .words)) (s .words) (leaf-place n)) ≢ 0
 
 -- it obeys its rule; its next; the leaf that its next names
 abbrev pub obeys : Slices → ℕ → Bool
 obeys s n = ruleAt (frame (s .words)) (s .words) (s .keys) (leaf-place n)
 
 abbrev pub nextRef : Slices → ℕ → ℕ
-nextRef s n = getD (recordAt (frame (s .words)) (s .words) (leaf-place n)) 3 0
+nextRef s n = nextLeaf (recordAt (frame (s .words)) (s .words) (leaf-place n))
 
--- a leaf of the pool whose word 0 is 1
+-- a leaf of the pool whose word says that it is in use
 abbrev pub namesLeaf : Frame → List ℕ → Place → Bool
-namesLeaf f words (leaf-place n) = inPool f (leaf-place n) && eqb (getD (recordAt f words (leaf-place n)) 0 0) 1
+namesLeaf f words (leaf-place n) = inPool f (leaf-place n) && eqb (usedAs (recordAt f words (leaf-place n))) 1
 namesLeaf f words (inner-place k n) = false
 
 abbrev pub nextNamed : Slices → ℕ → Bool
@@ -106,7 +107,7 @@ pub data Due : Call → Slices → ℕ → Type 0 where
   next-unframed : {n : ℕ} {s : Slices} → Unframed s → Due (next-leaf n) s 6
   next-outside : {n : ℕ} {s : Slices} → Fitting s → inPool (frame (s .words)) (leaf-place n) ≡ false → Due (next-leaf n) s 9
   next-free : {n : ℕ} {s : Slices} → Fitting s → inPool (frame (s .words)) (leaf-place n) ≡ true
-      → getD (recordAt (frame (s .words)) (s .words) (leaf-place n)) 0 0 ≡ 0 → Due (next-leaf n) s 9
+      → usedAs (recordAt (frame (s .words)) (s .words) (leaf-place n)) ≡ 0 → Due (next-leaf n) s 9
   next-broken : {n : ℕ} {s : Slices} → InUse s n → obeys s n ≡ false → Due (next-leaf n) s 6
   next-unnamed : {n : ℕ} {s : Slices} → InUse s n → obeys s n ≡ true → nextRef s n ≢ 0 → nextNamed s (nextRef s n) ≡ false → Due (next-leaf n) s 6
   next-end : {n : ℕ} {s : Slices} → InUse s n → obeys s n ≡ true → nextRef s n ≡ 0 → Due (next-leaf n) s 1
@@ -114,7 +115,7 @@ pub data Due : Call → Slices → ℕ → Type 0 where
   facts-unframed : {n : ℕ} {s : Slices} → Unframed s → Due (leaf-facts n) s 6
   facts-outside : {n : ℕ} {s : Slices} → Fitting s → inPool (frame (s .words)) (leaf-place n) ≡ false → Due (leaf-facts n) s 9
   facts-free : {n : ℕ} {s : Slices} → Fitting s → inPool (frame (s .words)) (leaf-place n) ≡ true
-      → getD (recordAt (frame (s .words)) (s .words) (leaf-place n)) 0 0 ≡ 0 → Due (leaf-facts n) s 9
+      → usedAs (recordAt (frame (s .words)) (s .words) (leaf-place n)) ≡ 0 → Due (leaf-facts n) s 9
   facts-broken : {n : ℕ} {s : Slices} → InUse s n → obeys s n ≡ false → Due (leaf-facts n) s 6
   facts-done : {n : ℕ} {s : Slices} → InUse s n → obeys s n ≡ true → Due (leaf-facts n) s 0
   -- the check: frame 6, 7, 6

@@ -1,15 +1,15 @@
 -- The head of an inner record with another prefix, and written anew.
 use Prim.Native.Nat.{ℕ, _+_}
 use mathlib.Core.List.{List}
-use lib.ListN.{set}
 use Rattle.lists.specs.Part.{splice}
 use Rattle.prefix.specs.declared.Prefix.{Prefix}
 use Rattle.frames.specs.declared.form.Form.{Form}
+use Rattle.records.specs.Words.{withKind, withCount, withFull}
 
--- the full length in word 2, the stored bytes after the count below
+-- the full length, and the stored bytes after the count below
 unfoldable pub setPrefix : Form → Prefix → List ℕ → List ℕ
-setPrefix form p rec = splice (set rec 2 (p .full .0)) (3 + form .counts) (3 + form .counts + 8) (p .stored)
+setPrefix form p rec = splice (withFull (p .full .0) rec) (3 + form .counts) (3 + form .counts + 8) (p .stored)
 
 -- kind and child count in words 0 and 1, and the prefix
 unfoldable pub setHead : Form → ℕ → ℕ → Prefix → List ℕ → List ℕ
-setHead form kind n p rec = setPrefix form p (set (set rec 0 kind) 1 n)
+setHead form kind n p rec = setPrefix form p (withCount n (withKind kind rec))

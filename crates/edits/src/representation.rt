@@ -1,10 +1,11 @@
 // Inner records of any kind, written. A record is a part of the words, and its body is what follows the form's head.
 ghost use mathlib.Core.Path.{_≡_};
 ghost use Prim.Native.Nat.{_≤_, _<_};
-ghost use lib.ListN.{length, getD, replicate};
+ghost use lib.ListN.{length, replicate};
 ghost use Rattle.lists.specs.Scan.{count, nonzero};
 ghost use Rattle.frames.specs.Kind.{childrenOf, bodyWords};
 ghost use Rattle.frames.specs.Form.{recordWords};
+ghost use Rattle.records.specs.Words.{childCount};
 ghost use Rattle.records.specs.Own.{BodyFits, InnerFits, childOf, childAt};
 ghost use Rattle.records.specs.Row.{directRow};
 ghost use Rattle.edits.specs.Change.{refIn, countIn, Needs};
@@ -21,6 +22,7 @@ use frames::kind;
 use lists::edit;
 use lists::scan;
 use prefix::Prefix;
+use records::header::CHILDREN;
 
 // What is done to the children of a record, for one byte: a child more, the child taken out, another reference for it.
 pub enum Change {
@@ -69,14 +71,14 @@ fn body_change(body: &mut [u32], kind: u32, n: usize, byte: u8, change: Change)
 
 // The children of a record changed: a child more into one that has room, or a child that there is taken out or replaced.
 pub fn change_child(rec: &mut [u32], form: Form, kind: u32, byte: u8, change: Change)
-    requires { ⌜ InnerFits form kind (now rec) × Needs change (getD (now rec) 1 0 < childrenOf kind) (0 < childAt form kind (now rec) byte) ⌝ }
+    requires { ⌜ InnerFits form kind (now rec) × Needs change (childCount (now rec) < childrenOf kind) (0 < childAt form kind (now rec) byte) ⌝ }
     ensures { λ _. ⌜ now (rec .exit) ≡ changeOf form kind (now (rec .entry)) byte change ⌝ }
 {
-    let n = num(rec, 1);
+    let n = num(rec, CHILDREN);
     let h = form::header_of(form);
     let e = form::record_words(form, kind);
     body_change(&mut rec[h..e], kind, n, byte, change);
-    rec[1] = count_in(change, n as u32);
+    rec[CHILDREN] = count_in(change, n as u32);
 }
 
 // The references of a body with n children by their bytes.
@@ -99,7 +101,7 @@ pub fn spread_of(form: Form, rec: &[u32], kind: u32) -> [u32; 256]
     requires { ⌜ InnerFits form kind (now rec) ⌝ }
     ensures { λ r. ⌜ r ≡ spreadOf form kind (now (rec .entry)) ⌝ }
 {
-    let n = num(rec, 1);
+    let n = num(rec, CHILDREN);
     let h = form::header_of(form);
     let e = form::record_words(form, kind);
     body_spread(&rec[h..e], kind, n)

@@ -8,6 +8,7 @@ use Rattle.frames.specs.Kind.{childrenOf}
 use Rattle.frames.specs.Frame.{rootWord, lastWord}
 use Rattle.frames.specs.Place.{placeAt, refOf, recordAt}
 use Rattle.frames.specs.declared.frame.Frame.{Frame}
+use Rattle.records.specs.Words.{childCount, previousLeaf}
 use Rattle.art.specs.Stores.{leaf-place, inner-place}
 use Rattle.art.specs.Chain.{leaf-ref}
 use Rattle.pools.specs.Pool.{lowestFree, freeKind}
@@ -37,7 +38,7 @@ growChoice up ref byte free.Nowhere = Nowhere
 -- a missing child is added in place where the record has room
 unfoldable pub intoChoice : Frame → List ℕ → Up → ℕ → ℕ → Choice
 intoChoice f words up ref byte =
-    choose (ltb (getD (recordAt f words (placeAt ref)) 1 0) (childrenOf (ref % 8))) (At (Add ref byte)) (growChoice up ref byte (freeKind f words (suc (ref % 8))))
+    choose (ltb (childCount (recordAt f words (placeAt ref))) (childrenOf (ref % 8))) (At (Add ref byte)) (growChoice up ref byte (freeKind f words (suc (ref % 8))))
 
 -- a new branching is made in the smallest kind that has a free record
 abbrev pub forkWith : Up → (ref leaf d c : ℕ) → Free → Choice
@@ -49,7 +50,7 @@ forkChoice f words up ref leaf d c = forkWith up ref leaf d c (freeKind f words 
 
 -- ── the place in the list: before the first leaf whose tag is not below ──
 abbrev pub gapAt : Frame → List ℕ → ℕ → Gap
-gapAt f words n = record { previous = getD (recordAt f words (leaf-place n)) 2 0; next = leaf-ref n }
+gapAt f words n = record { previous = previousLeaf (recordAt f words (leaf-place n)); next = leaf-ref n }
 
 abbrev pub gapEnd : List ℕ → Gap
 gapEnd words = record { previous = lastWord words; next = 0 }

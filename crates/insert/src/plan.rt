@@ -2,11 +2,11 @@
 ghost use mathlib.Core.Path.{_≡_};
 ghost use mathlib.Core.Bool.{true};
 ghost use Prim.Native.Nat.{_<_, _+_, _*_, _%_};
-ghost use lib.ListN.{getD};
 ghost use lib.Dec.{ltb};
 ghost use Rattle.frames.specs.Kind.{childrenOf};
 ghost use Rattle.frames.specs.Frame.{FrameOf};
 ghost use Rattle.frames.specs.Place.{placeAt, inPool, recordAt};
+ghost use Rattle.records.specs.Words.{childCount};
 ghost use Rattle.art.specs.Stores.{leaf-place};
 ghost use Rattle.range.specs.Range.{afterFirst};
 ghost use Rattle.points.specs.There.{InnerHere, PointThere};
@@ -22,6 +22,7 @@ use pools::pools::Free;
 use pools::pools::lowest_free;
 use pools::pools::smallest_free;
 use range::After;
+use records::leaf_node;
 use writes::leaf_node::Gap;
 
 // What becomes of the tree. Records go by their references.
@@ -51,10 +52,10 @@ pub enum Plan {
 // Whether a record has room for a child.
 fn has_room(words: &[u32], keys: &[u8], f: Frame, reference: u32) -> bool
     requires { ⌜ FrameOf f (now words) (now keys) × InnerHere f (now words) (placeAt reference) ⌝ }
-    ensures { λ r. ⌜ r ≡ ltb (getD (recordAt f (now (words .entry)) (placeAt reference)) 1 0) (childrenOf (reference % 8)) ⌝ }
+    ensures { λ r. ⌜ r ≡ ltb (childCount (recordAt f (now (words .entry)) (placeAt reference))) (childrenOf (reference % 8)) ⌝ }
 {
     let row = kind::row_of(reference % 8);
-    places::word_at(words, keys, f, reference, 1) < row.children
+    places::children_at(words, keys, f, reference) < row.children
 }
 
 // A child more for a record: in place, or in a larger record.
@@ -100,7 +101,7 @@ fn gap_at(words: &[u32], keys: &[u8], f: Frame, n: u32) -> Gap
 {
     let next = n * 8 + frame::LEAF;
     Gap {
-        previous: places::word_at(words, keys, f, next, 2),
+        previous: leaf_node::previous(places::leaf_at(words, keys, f, n)),
         next: next,
     }
 }

@@ -9,9 +9,10 @@ use lib.ListN.{length, getD, take}
 use lib.Dec.{eqb}
 use Rattle.lists.specs.Scan.{choose}
 use Rattle.lists.specs.Part.{between}
-use Rattle.lists.proofs.Parts.{between-at, between-front}
+use Rattle.lists.proofs.Parts.{between-front}
 use Rattle.frames.specs.Frame.{FrameOf}
 use Rattle.frames.specs.Place.{placeAt, inPool, startAt, recordAt, keyAt}
+use Rattle.records.specs.Words.{usedAs, tagLength}
 use Rattle.records.specs.View.{ruleAt}
 use Rattle.frames.specs.declared.frame.Frame.{Frame}
 use Rattle.records.proofs.Owns.{leaf-rule}
@@ -26,14 +27,6 @@ use Rattle.leaves.specs.declared.LeafState.{LeafState}
 use Rattle.leaves.specs.declared.LeafState.the-variants.{Good, Broken, NoLeaf}
 use Rattle.tree.proofs.Arrivals.{leaf-stands, frame-in}
 
--- a word of a leaf
-pub leaf-word : (words : List ℕ) (start k : ℕ) → k < 6 → getD (between words start (start + 6)) k 0 ≡ getD words (start + k) 0
-leaf-word words start k h = between-at words start (start + 6) k (omega arith)
-
--- word 0 stands where the leaf starts
-pub leaf-head : (words : List ℕ) (start : ℕ) → getD (between words start (start + 6)) 0 0 ≡ getD words start 0
-leaf-head words start = leaf-word words start 0 (omega arith) ∙ ap (λ (i : ℕ). getD words i 0) (let q : start + 0 ≡ start = omega arith in q)
-
 -- ---- the reference of a leaf number of the pool
 pub ref-pooled : (f : Frame) (n : ℕ) → n < getD (f .caps) 5 0 → inPool f (placeAt (n * 8 + 5)) ≡ true
 ref-pooled f n h = ap (inPool f) (place-leaf n) ∙ lt-ltb n (getD (f .caps) 5 0) h
@@ -44,20 +37,20 @@ module _ (f : Frame) (words keys : List ℕ) (n : ℕ) where
   unfolding leafState
   state-outside p = simp p
 
-  -- by a number of the pool, and the first word of its reference's place
-  module _ (h : n < getD (f .caps) 5 0) (start : ℕ) (s : start ≡ startAt f (placeAt (n * 8 + 5))) where
+  -- by a number of the pool, the first word of its reference's place, and what the leaf there is used as
+  module _ (h : n < getD (f .caps) 5 0) (start : ℕ) (s : start ≡ startAt f (placeAt (n * 8 + 5))) {u : ℕ} (e : u ≡ usedAs (between words start (start + 6))) where
     begins : start ≡ startAt f (leaf-place n)
     begins = s ∙ ap (startAt f) (place-leaf n)
 
-    head : getD (recordAt f words (leaf-place n)) 0 0 ≡ getD words start 0
-    head = ap (λ (a : ℕ). getD (between words a (a + 6)) 0 0) (sym begins) ∙ leaf-head words start
+    head : usedAs (recordAt f words (leaf-place n)) ≡ u
+    head = ap (λ (a : ℕ). usedAs (between words a (a + 6))) (sym begins) ∙ sym e
 
-    pub state-free : getD words start 0 ≡ 0 → NoLeaf ≡ leafState f words keys n
+    pub state-free : u ≡ 0 → NoLeaf ≡ leafState f words keys n
     unfolding leafState
     state-free z = simp (lt-ltb n (getD (f .caps) 5 0) h, eq-eqb _ _ (head ∙ z))
 
-    module _ (z : getD words start 0 ≡ 0 → ⊥) where
-      used : eqb (getD (recordAt f words (leaf-place n)) 0 0) 0 ≡ false
+    module _ (z : u ≡ 0 → ⊥) where
+      used : eqb (usedAs (recordAt f words (leaf-place n))) 0 ≡ false
       used = ne-eqb _ _ (λ e. z (sym head ∙ e))
 
       ruled : (r : Bool) → ruleAt f words keys (placeAt (n * 8 + 5)) ≡ r → choose r (Good start) Broken ≡ leafState f words keys n
@@ -84,14 +77,10 @@ pub good-record : {f : Frame} {words keys : List ℕ} {n start : ℕ} → GoodLe
     → recordAt f words (leaf-place n) ≡ between words start (start + 6)
 good-record {words = words} g = ap (λ (a : ℕ). between words a (a + 6)) (sym (g .begins))
 
-pub good-word : {f : Frame} {words keys : List ℕ} {n start : ℕ} → GoodLeaf f words keys n start → (k : ℕ) → k < 6
-    → getD words (start + k) 0 ≡ getD (recordAt f words (leaf-place n)) k 0
-good-word {words = words} {start = start} g k h = sym (leaf-word words start k h) ∙ ap (λ (l : List ℕ). getD l k 0) (sym (good-record g))
-
 module _ {f : Frame} {words keys : List ℕ} (w : FrameOf f words keys) (n : ℕ) where
   pub good-leaf : (start : ℕ) → leafState f words keys n ≡ Good start → GoodLeaf f words keys n start
   unfolding leafState
-  good-leaf start e = go (inPool f x) refl (eqb (getD (recordAt f words x) 0 0) 0) (ruleAt f words keys x) refl e
+  good-leaf start e = go (inPool f x) refl (eqb (usedAs (recordAt f words x)) 0) (ruleAt f words keys x) refl e
     where
       x : Place
       x = leaf-place n
@@ -123,19 +112,19 @@ module _ (f : Frame) (words : List ℕ) (ref : ℕ) where
       pub next-outside : inPool f (placeAt ref) ≡ false → Damaged ≡ nextOf f words ref
       next-outside p = simp (ap (inPool f) (sym e) ∙ p) at (named (leaf-place n) e)
 
-      module _ (p : inPool f (placeAt ref) ≡ true) (start : ℕ) (s : start ≡ startAt f (placeAt ref)) where
+      module _ (p : inPool f (placeAt ref) ≡ true) (start : ℕ) (s : start ≡ startAt f (placeAt ref)) {u : ℕ} (h : u ≡ usedAs (between words start (start + 6))) where
         rec-is : recordAt f words (leaf-place n) ≡ between words start (start + 6)
         rec-is = ap (λ (a : ℕ). between words a (a + 6)) (sym (s ∙ ap (startAt f) e))
 
-        next-head : getD (recordAt f words (leaf-place n)) 0 0 ≡ getD words start 0
-        next-head = ap (λ (l : List ℕ). getD l 0 0) rec-is ∙ leaf-head words start
+        next-head : usedAs (recordAt f words (leaf-place n)) ≡ u
+        next-head = ap usedAs rec-is ∙ sym h
 
-        pub next-unused : (getD words start 0 ≡ 1 → ⊥) → Damaged ≡ nextOf f words ref
-        next-unused u = simp (ap (inPool f) (sym e) ∙ p, ne-eqb _ _ (λ q. u (sym next-head ∙ q))) at (named (leaf-place n) e)
+        pub next-unused : (u ≡ 1 → ⊥) → Damaged ≡ nextOf f words ref
+        next-unused v = simp (ap (inPool f) (sym e) ∙ p, ne-eqb _ _ (λ q. v (sym next-head ∙ q))) at (named (leaf-place n) e)
 
-        pub next-found : getD words start 0 ≡ 1 → leafFound n (between words start (start + 6)) ≡ nextOf f words ref
-        next-found u =
-            ap (leafFound n) (sym rec-is) ∙ simp (ap (inPool f) (sym e) ∙ p, eq-eqb _ _ (next-head ∙ u)) at (named (leaf-place n) e)
+        pub next-found : u ≡ 1 → leafFound n (between words start (start + 6)) ≡ nextOf f words ref
+        next-found v =
+            ap (leafFound n) (sym rec-is) ∙ simp (ap (inPool f) (sym e) ∙ p, eq-eqb _ _ (next-head ∙ v)) at (named (leaf-place n) e)
 
 -- ---- the tag
 module _ {f : Frame} {words keys : List ℕ} (w : FrameOf f words keys) (n : ℕ) where
@@ -151,7 +140,7 @@ module _ {f : Frame} {words keys : List ℕ} (w : FrameOf f words keys) (n : ℕ
       go (Good start) e h =
           let g = good-leaf w n start e in
           let r = leaf-rule (f .form .limit) (between words start (start + 6)) (keyAt f keys n) (g .there .fits .ok) in
-          (omega (arith, r .short, ap (λ (l : List ℕ). getD l 1 0) (good-record g)), g .there .bytes)
+          (omega (arith, r .short, ap tagLength (good-record g)), g .there .bytes)
       go Broken e h = absurd (omega arith)
       go NoLeaf e h = absurd (omega arith)
 

@@ -2,10 +2,11 @@
 use Prim.Native.Nat.{ℕ}
 use mathlib.Core.List.{List, []}
 use mathlib.Core.Bool.{_&&_}
-use lib.ListN.{getD, take}
+use lib.ListN.{take}
 use lib.Dec.{eqb}
 use Rattle.lists.specs.Scan.{choose}
 use Rattle.frames.specs.Place.{placeAt, inPool, startAt, recordAt, keyAt}
+use Rattle.records.specs.Words.{usedAs, tagLength, nextLeaf}
 use Rattle.records.specs.View.{ruleAt}
 use Rattle.frames.specs.declared.frame.Frame.{Frame}
 use Rattle.art.specs.Stores.{Place, leaf-place, inner-place}
@@ -18,28 +19,28 @@ use Rattle.tree.specs.declared.answer.Facts.the-variants as facts
 use Rattle.leaves.specs.declared.LeafState.{LeafState}
 use Rattle.leaves.specs.declared.LeafState.the-variants.{Good, Broken, NoLeaf}
 
--- 9 for a number outside the pool or a word 0 that is 0, then 6 by the leaf's own rule
+-- 9 for a number outside the pool or a leaf that is not in use, then 6 by the leaf's own rule
 unfoldable pub leafState : Frame → List ℕ → List ℕ → ℕ → LeafState
 leafState f words keys n =
     choose (inPool f (leaf-place n))
-    (choose (eqb (getD (recordAt f words (leaf-place n)) 0 0) 0) NoLeaf
+    (choose (eqb (usedAs (recordAt f words (leaf-place n))) 0) NoLeaf
     (choose (ruleAt f words keys (leaf-place n)) (Good (startAt f (leaf-place n))) Broken))
     NoLeaf
 
 -- ── the next leaf ──
--- a leaf of the pool whose word 0 is 1, or 6
+-- a leaf of the pool that is in use, or 6
 abbrev pub nextAt : Frame → List ℕ → Place → Found
 nextAt f words (leaf-place n) =
-    let rec = recordAt f words (leaf-place n) in choose (inPool f (leaf-place n) && eqb (getD rec 0 0) 1) (leafFound n rec) found.Damaged
+    let rec = recordAt f words (leaf-place n) in choose (inPool f (leaf-place n) && eqb (usedAs rec) 1) (leafFound n rec) found.Damaged
 nextAt f words (inner-place k n) = found.Damaged
 
 -- 1 at the end of the list
 unfoldable pub nextOf : Frame → List ℕ → ℕ → Found
 nextOf f words ref = choose (eqb ref 0) found.Missing (nextAt f words (placeAt ref))
 
--- by word 3 of a leaf that obeys its rule
+-- by the next reference of a leaf that obeys its rule
 abbrev pub nextFrom : Frame → List ℕ → ℕ → LeafState → Found
-nextFrom f words n (Good start) = nextOf f words (getD (recordAt f words (leaf-place n)) 3 0)
+nextFrom f words n (Good start) = nextOf f words (nextLeaf (recordAt f words (leaf-place n)))
 nextFrom f words n Broken = found.Damaged
 nextFrom f words n NoLeaf = found.NoLeaf
 
@@ -61,7 +62,7 @@ factsOf words keys n = withFrame words keys (λ f. factsFrom (recordAt f words (
 -- ── the tag ──
 -- as many key bytes as its length says, and none on a refusal
 abbrev pub lenFrom : List ℕ → LeafState → ℕ
-lenFrom rec (Good start) = getD rec 1 0
+lenFrom rec (Good start) = tagLength rec
 lenFrom rec Broken = 0
 lenFrom rec NoLeaf = 0
 

@@ -21,6 +21,15 @@ pub enum LeafState {
     NoLeaf,
 }
 
+// The six words of a leaf, by its first.
+fn leaf_words<'a>(words: &'a [u32], start: usize) -> &'a [u32]
+    requires { ⌜ start + 6 ≤ length (now words) ⌝ }
+    ensures { λ r. ⌜ (now r ≡ between (now (words .entry)) start (start + 6)) × (length (now r) ≡ 6) ⌝ }
+{
+    let e = start + 6;
+    &words[start..e]
+}
+
 // A number of no leaf in use is told from a leaf whose words are damaged: the two are refused by different numbers.
 fn leaf_state(words: &[u32], keys: &[u8], f: Frame, number: u32) -> LeafState
     requires { ⌜ FrameOf f (now words) (now keys) ⌝ }
@@ -32,7 +41,7 @@ fn leaf_state(words: &[u32], keys: &[u8], f: Frame, number: u32) -> LeafState
     }
     let reference = number * 8 + frame::LEAF;
     let start = frame::start_at(f, reference);
-    if words[start] == 0 {
+    if leaf_node::used_as(leaf_words(words, start)) == 0 {
         return LeafState::NoLeaf;
     }
     if !arrive::rule_at(words, keys, f, reference) {
@@ -41,7 +50,7 @@ fn leaf_state(words: &[u32], keys: &[u8], f: Frame, number: u32) -> LeafState
     LeafState::Good(start)
 }
 
-// The leaf that a next reference names: its word 0 must be 1, and no more of it is tested.
+// The leaf that a next reference names: it must be in use, and no more of it is tested.
 fn next_of(words: &[u32], keys: &[u8], f: Frame, next: u32) -> Found
     requires { ⌜ FrameOf f (now words) (now keys) ⌝ }
     ensures { λ r. ⌜ r ≡ nextOf f (now (words .entry)) next ⌝ }
@@ -56,7 +65,7 @@ fn next_of(words: &[u32], keys: &[u8], f: Frame, next: u32) -> Found
         return Found::Damaged;
     }
     let start = frame::start_at(f, next);
-    if words[start] != 1 {
+    if leaf_node::used_as(leaf_words(words, start)) != 1 {
         return Found::Damaged;
     }
     minmax::leaf_found(words, next / 8, start)
@@ -70,7 +79,10 @@ pub fn next_leaf(words: &[u32], keys: &[u8], number: u32) -> Found
         let f = frame::frame_at(words, keys);
         let s = leaf_state(words, keys, f, number);
         return match s {
-            LeafState::Good(start) => next_of(words, keys, f, words[start + 3]),
+            LeafState::Good(start) => {
+                let next = leaf_node::next(leaf_words(words, start));
+                next_of(words, keys, f, next)
+            }
             LeafState::Broken => Found::Damaged,
             LeafState::NoLeaf => Found::NoLeaf,
         };
@@ -99,9 +111,9 @@ fn facts_at(words: &[u32], start: usize) -> Facts
     requires { ⌜ start + 6 ≤ length (now words) ⌝ }
     ensures { λ r. ⌜ r ≡ factsHere (between (now (words .entry)) start (start + 6)) ⌝ }
 {
-    let e = start + 6;
-    let rec = &words[start..e];
-    Facts::Leaf(rec[1], leaf_node::total_of(rec))
+    let rec = leaf_words(words, start);
+    let len = leaf_node::tag_len(rec);
+    Facts::Leaf(len as u32, leaf_node::total_of(rec))
 }
 
 // How many key bytes the tag of a leaf has: 0 where there is no leaf in use, or it breaks its rule.
@@ -111,7 +123,7 @@ fn tag_len(words: &[u32], keys: &[u8], f: Frame, number: u32) -> usize
 {
     let s = leaf_state(words, keys, f, number);
     match s {
-        LeafState::Good(start) => frame::num(words, start + 1),
+        LeafState::Good(start) => leaf_node::tag_len(leaf_words(words, start)),
         LeafState::Broken => 0,
         LeafState::NoLeaf => 0,
     }

@@ -1,4 +1,4 @@
--- References to records that are there. An inner record's kind is one of four, and the record has its head; a leaf of the pool lies within the words.
+-- References to records that are there. An inner record's kind is one of four; a leaf of the pool lies within the words.
 use Prim.Native.Nat.{ℕ, _+_, _*_, _/_, _%_, _≤_, _<_}
 use mathlib.Core.Path.{_≡_, refl, sym, ap, subst, _∙_}
 use mathlib.Core.List.{List}
@@ -49,9 +49,6 @@ module _ {f : Frame} {words : List ℕ} (ref : ℕ) (h : InnerHere f words (plac
 
     pub here-within : {keys : List ℕ} → FrameOf f words keys → start + z + 16 ≤ length words
     here-within w = omega (arith, s, e, ap (sizeAt f) here-place, place-room w (placeAt ref) (h .pool))
-
-  pub here-head : 2 < sizeAt f (placeAt ref)
-  here-head = omega (arith, ap (sizeAt f) here-place)
 
 module _ {f : Frame} {words keys : List ℕ} (w : FrameOf f words keys) (n : ℕ) (p : inPool f (leaf-place n) ≡ true) where
   pub leaf-small : n ≤ 4096

@@ -1,14 +1,18 @@
-// Records by their references: a word of one, a leaf's total, and the reference to a record.
+// Records by their references: how many children one has, the words of a leaf, its total, and the reference to a record.
 ghost use mathlib.Core.Path.{_≡_};
 ghost use mathlib.Core.Bool.{true};
-ghost use Prim.Native.Nat.{_≤_, _<_, _+_, _*_};
-ghost use lib.ListN.{getD};
+ghost use Prim.Native.Nat.{_≤_, _+_, _*_};
+ghost use lib.ListN.{length};
 ghost use Rattle.frames.specs.Frame.{FrameOf};
-ghost use Rattle.frames.specs.Place.{placeAt, inPool, sizeAt, recordAt};
+ghost use Rattle.frames.specs.Place.{placeAt, inPool, recordAt};
+ghost use Rattle.records.specs.Words.{childCount};
 ghost use Rattle.records.specs.Own.{totalOf};
 ghost use Rattle.art.specs.Stores.{leaf-place};
+ghost use Rattle.points.specs.There.{InnerHere};
+use frames::form;
 use frames::frame;
 use frames::frame::Frame;
+use records::header;
 use records::leaf_node;
 
 // The reference to a record of a pool, by its kind and number.
@@ -19,21 +23,30 @@ pub fn reference_to(kind: u32, number: usize) -> u32
     number as u32 * 8 + kind
 }
 
-// A word of a record.
-pub fn word_at(words: &[u32], keys: &[u8], f: Frame, reference: u32, i: usize) -> u32
-    requires { ⌜ FrameOf f (now words) (now keys) × ((inPool f (placeAt reference) ≡ true) × (i < sizeAt f (placeAt reference))) ⌝ }
-    ensures { λ r. ⌜ r ≡ getD (recordAt f (now (words .entry)) (placeAt reference)) i 0 ⌝ }
+// How many children an inner record has.
+pub fn children_at(words: &[u32], keys: &[u8], f: Frame, reference: u32) -> u32
+    requires { ⌜ FrameOf f (now words) (now keys) × InnerHere f (now words) (placeAt reference) ⌝ }
+    ensures { λ r. ⌜ r ≡ childCount (recordAt f (now (words .entry)) (placeAt reference)) ⌝ }
 {
     let start = frame::start_at(f, reference);
-    words[start + i]
+    let e = start + form::record_words(f.form, reference % 8);
+    header::child_count(&words[start..e])
 }
 
-// A leaf's total, by its number.
+// The words of a leaf, by its number.
+pub fn leaf_at<'a>(words: &'a [u32], keys: &[u8], f: Frame, n: u32) -> &'a [u32]
+    requires { ⌜ FrameOf f (now words) (now keys) × (inPool f (leaf-place n) ≡ true) ⌝ }
+    ensures { λ r. ⌜ (now r ≡ recordAt f (now (words .entry)) (leaf-place n)) × (length (now r) ≡ 6) ⌝ }
+{
+    let start = frame::start_at(f, reference_to(frame::LEAF, n as usize));
+    let e = start + 6;
+    &words[start..e]
+}
+
+// Its total.
 pub fn total_at(words: &[u32], keys: &[u8], f: Frame, n: u32) -> u64
     requires { ⌜ FrameOf f (now words) (now keys) × (inPool f (leaf-place n) ≡ true) ⌝ }
     ensures { λ r. ⌜ r ≡ totalOf (recordAt f (now (words .entry)) (leaf-place n)) ⌝ }
 {
-    let start = frame::start_at(f, reference_to(frame::LEAF, n as usize));
-    let e = start + 6;
-    leaf_node::total_of(&words[start..e])
+    leaf_node::total_of(leaf_at(words, keys, f, n))
 }

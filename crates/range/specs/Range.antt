@@ -10,6 +10,7 @@ use Rattle.lists.specs.Compare.{less}
 use Rattle.frames.specs.Frame.{frame, firstWord}
 use Rattle.frames.specs.Place.{placeAt, inPool, recordAt, keyAt}
 use Rattle.frames.specs.declared.frame.Frame.{Frame}
+use Rattle.records.specs.Words.{tagLength, nextLeaf}
 use Rattle.records.specs.Own.{totalOf}
 use Rattle.records.specs.View.{Held}
 use Rattle.art.specs.Stores.{Place, leaf-place, inner-place}
@@ -24,12 +25,12 @@ use Rattle.range.specs.declared.Step.the-variants.{Next, Final}
 -- ── along the leaf list ──
 -- a leaf's tag comes before the given bytes in unsigned byte order
 unfoldable pub below : List ℕ → List ℕ → List ℕ → Bool
-below rec key tag = less (take (getD rec 1 0) key) tag
+below rec key tag = less (take (tagLength rec) key) tag
 
 -- a leaf whose tag is below is passed over by its next; the first other one is the answer; a length over its key bytes is 6
 unfoldable pub leafStep : List ℕ → List ℕ → List ℕ → ℕ → Step
 leafStep rec key tag n =
-    choose (ltb (length key) (getD rec 1 0)) (Final Damaged) (choose (below rec key tag) (Next (getD rec 3 0)) (Final (Leaf n (totalOf rec))))
+    choose (ltb (length key) (tagLength rec)) (Final Damaged) (choose (below rec key tag) (Next (nextLeaf rec)) (Final (Leaf n (totalOf rec))))
 
 -- the list is of leaves of the pool alone
 abbrev pub placeStep : Frame → List ℕ → List ℕ → List ℕ → Place → Step

@@ -3,9 +3,10 @@
 ghost use mathlib.Core.Path.{_≡_};
 ghost use mathlib.Core.Bool.{true};
 ghost use Prim.Native.Nat.{_≤_, _+_, _*_};
-ghost use lib.ListN.{length, getD};
+ghost use lib.ListN.{length};
 ghost use Rattle.lists.specs.Part.{between};
 ghost use Rattle.frames.specs.Frame.{frameFits, FrameOf};
+ghost use Rattle.records.specs.Words.{tagLength};
 ghost use Rattle.range.specs.Range.{below, leafStep, stepOf, endedOf, afterFirst, walkOf, answer, afterOf};
 use frames::frame;
 use frames::frame::Frame;
@@ -30,10 +31,10 @@ pub enum Step {
 
 // Whether a leaf's tag comes before the given bytes.
 fn tag_below(rec: &[u32], key: &[u8], tag: &[u8]) -> bool
-    requires { ⌜ (length (now rec) ≡ 6) × (getD (now rec) 1 0 ≤ length (now key)) ⌝ }
+    requires { ⌜ (length (now rec) ≡ 6) × (tagLength (now rec) ≤ length (now key)) ⌝ }
     ensures { λ r. ⌜ r ≡ below (now (rec .entry)) (now (key .entry)) (now (tag .entry)) ⌝ }
 {
-    let n = frame::num(rec, 1);
+    let n = leaf_node::tag_len(rec);
     compare::less_bytes(&key[0..n], tag)
 }
 
@@ -42,11 +43,11 @@ fn leaf_step(rec: &[u32], key: &[u8], tag: &[u8], number: u32) -> Step
     requires { ⌜ length (now rec) ≡ 6 ⌝ }
     ensures { λ r. ⌜ r ≡ leafStep (now (rec .entry)) (now (key .entry)) (now (tag .entry)) number ⌝ }
 {
-    if key.len() < frame::num(rec, 1) {
+    if key.len() < leaf_node::tag_len(rec) {
         return Step::Final(After::Damaged);
     }
     if tag_below(rec, key, tag) {
-        return Step::Next(rec[3]);
+        return Step::Next(leaf_node::next(rec));
     }
     Step::Final(After::Leaf(number, leaf_node::total_of(rec)))
 }

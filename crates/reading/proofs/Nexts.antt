@@ -16,7 +16,7 @@ use Rattle.leaves.specs.Leaf.{leafState, nextOf, nextLeafOf, factsOf, tagOf}
 use Rattle.tree.specs.declared.answer.Found.the-variants.{Leaf}
 use Rattle.tree.specs.declared.answer.Facts.the-variants as facts
 use Rattle.leaves.specs.declared.LeafState.the-variants.{Good}
-use Rattle.leaves.proofs.Leaves.{leaf-head, next-none, next-found, next-by, facts-by, len-by, tag-by}
+use Rattle.leaves.proofs.Leaves.{next-none, next-found, next-by, facts-by, len-by, tag-by}
 use Rattle.art.specs.Tags.{Tag, Listing}
 use Rattle.art.specs.Trees.{Tree}
 use Rattle.art.specs.Deletes.{held}
@@ -61,7 +61,7 @@ module _ {f : Frame} {words keys : List ℕ} {d : Option (Tree Held)} (s : Shown
         let l = entry-seen s e i in
         let at : placeAt ref ≡ leaf-place n = ap placeAt q ∙ place-leaf n in
         let start = startAt f (leaf-place n) in
-        sym (next-found f words ref (λ z. omega arith) n at (ap (inPool f) at ∙ l .pool) start (ap (startAt f) (sym at)) (sym (leaf-head words start) ∙ entry-obeys s e i .in-use))
+        sym (next-found f words ref (λ z. omega arith) n at (ap (inPool f) at ∙ l .pool) start (ap (startAt f) (sym at)) refl (entry-obeys s e i .in-use))
         ∙ ap (Leaf n) (sym (l .total-is))
 
   -- ── the next leaf ──

@@ -12,19 +12,20 @@ use Rattle.lists.specs.Part.{between}
 use Rattle.frames.specs.Kind.{childrenOf, bodyWords}
 use Rattle.frames.specs.Form.{header, recordWords, storedOf}
 use Rattle.frames.specs.declared.form.Form.{Form}
+use Rattle.records.specs.Words.{usedAs, childCount, fullLength, tagLength}
 
 -- an inner record's prefix
 unfoldable pub prefixAt : Form → List ℕ → Prefix
-prefixAt form rec = record { full = record { 0 = getD rec 2 0 }; stored = storedOf form rec }
+prefixAt form rec = record { full = record { 0 = fullLength rec }; stored = storedOf form rec }
 
 -- word 0 its kind; 2 children or more; length at most the form's limit; prefix words at most 255, the unused ones 0
 unfoldable pub headOk : Form → ℕ → List ℕ → Bool
 headOk form kind rec =
-    eqb (getD rec 0 0) kind
-    && leb 2 (getD rec 1 0)
-    && leb (getD rec 2 0) (form .limit)
+    eqb (usedAs rec) kind
+    && leb 2 (childCount rec)
+    && leb (fullLength rec) (form .limit)
     && all (atMost 255) (storedOf form rec)
-    && all (atMost 0) (between (storedOf form rec) (capped (getD rec 2 0)) 8)
+    && all (atMost 0) (between (storedOf form rec) (capped (fullLength rec)) 8)
 
 -- kinds 1 and 2, with k places and n children: ascending key bytes, then references, none 0; the rest 0
 unfoldable pub sortedOk : ℕ → List ℕ → ℕ → Bool
@@ -70,7 +71,7 @@ bodyPart form kind rec = between rec (header form) (recordWords form kind)
 -- an inner record's own rule: no more children than its kind holds, its head, and its body with so many children
 unfoldable pub innerOk : Form → ℕ → List ℕ → Bool
 innerOk form kind rec =
-    leb (getD rec 1 0) (childrenOf kind) && (headOk form kind rec && bodyOk kind (bodyPart form kind rec) (getD rec 1 0))
+    leb (childCount rec) (childrenOf kind) && (headOk form kind rec && bodyOk kind (bodyPart form kind rec) (childCount rec))
 
 -- a body of its kind's length that obeys its part of the rule with n children
 pub record BodyFits (kind : ℕ) (body : List ℕ) (n : ℕ) : Type 0 where
@@ -111,12 +112,12 @@ childOf kind body n byte =
 
 -- of a record
 unfoldable pub childAt : Form → ℕ → List ℕ → ℕ → ℕ
-childAt form kind rec byte = childOf kind (bodyPart form kind rec) (getD rec 1 0) byte
+childAt form kind rec byte = childOf kind (bodyPart form kind rec) (childCount rec) byte
 
 -- a leaf's own rule: in use, length at most the limit, its later key bytes 0
 unfoldable pub leafOk : ℕ → List ℕ → List ℕ → Bool
 leafOk limit rec key =
-    leb (getD rec 1 0) limit && (eqb (getD rec 0 0) 1 && all (atMost 0) (between key (getD rec 1 0) limit))
+    leb (tagLength rec) limit && (eqb (usedAs rec) 1 && all (atMost 0) (between key (tagLength rec) limit))
 
 -- a leaf's total: word 4 its low half, word 5 its high half
 unfoldable pub totalOf : List ℕ → ℕ

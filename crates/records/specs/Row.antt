@@ -2,11 +2,12 @@
 use Prim.Native.Nat.{ℕ, zero, suc, _+_, _≤_, _<_}
 use mathlib.Core.Path.{_≡_}
 use mathlib.Core.List.{List, [], _∷_}
-use lib.ListN.{length, getD}
+use lib.ListN.{length}
 use lib.Dec.{eqb, leb}
 use Rattle.lists.specs.Scan.{choose}
 use Rattle.lists.specs.Part.{between}
 use Rattle.frames.specs.Kind.{childrenOf}
+use Rattle.records.specs.Words.{childCount}
 use Rattle.records.specs.Own.{byslot, bodyPart}
 use Rattle.frames.specs.declared.form.Form.{Form}
 use Rattle.records.specs.declared.representation.Entry.{Entry}
@@ -44,7 +45,7 @@ bodyRow kind body n = choose (leb kind 2) (sortedRow (childrenOf kind) body n) (
 
 -- the row of a record
 abbrev pub rowAt : Form → ℕ → List ℕ → List (ℕ × ℕ)
-rowAt form kind rec = bodyRow kind (bodyPart form kind rec) (getD rec 1 0)
+rowAt form kind rec = bodyRow kind (bodyPart form kind rec) (childCount rec)
 
 -- ── one child of a row ──
 abbrev pub entry : ℕ × ℕ → Entry

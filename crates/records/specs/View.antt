@@ -2,10 +2,11 @@
 use Prim.Native.Nat.{ℕ}
 use mathlib.Core.List.{List, [], _∷_}
 use mathlib.Core.Bool.{Bool, _&&_}
-use lib.ListN.{getD, take}
+use lib.ListN.{take}
 use lib.Dec.{eqb}
 use Rattle.lists.specs.Scan.{choose, all, atMost}
 use Rattle.prefix.specs.Run.{held}
+use Rattle.records.specs.Words.{usedAs, fullLength, tagLength}
 use Rattle.records.specs.Own.{prefixAt, innerOk, leafOk, totalOf}
 use Rattle.frames.specs.Place.{placeAt, inPool, recordAt, keyAt}
 use Rattle.records.specs.Row.{rowAt}
@@ -25,12 +26,12 @@ places (e ∷ es) = (e .0, placeAt (e .1)) ∷ places es
 
 -- a leaf: its tag, and what is held; a record whose word 0 is 0 is unused
 abbrev pub leafCell : ℕ → List ℕ → List ℕ → Cell Held
-leafCell n rec key = choose (eqb (getD rec 0 0) 0) unused (leaf-cell (take (getD rec 1 0) key) (record { number = n; total = totalOf rec }))
+leafCell n rec key = choose (eqb (usedAs rec) 0) unused (leaf-cell (take (tagLength rec) key) (record { number = n; total = totalOf rec }))
 
 -- an inner record: its length, its stored bytes and its row
 abbrev pub innerCell : Form → ℕ → List ℕ → Cell Held
 innerCell form kind rec =
-    choose (eqb (getD rec 0 0) 0) unused (inner-cell (getD rec 2 0) (held (prefixAt form rec)) (places (rowAt form kind rec)))
+    choose (eqb (usedAs rec) 0) unused (inner-cell (fullLength rec) (held (prefixAt form rec)) (places (rowAt form kind rec)))
 
 -- ── of a record's words and its key bytes, at a place ──
 -- the key bytes of a place: only leaves have them

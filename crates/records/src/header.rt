@@ -3,11 +3,35 @@ ghost use mathlib.Core.Path.{_≡_};
 ghost use Prim.Native.Nat.{_≤_, _<_, _+_, _^_};
 ghost use lib.ListN.{length, getD};
 ghost use Rattle.frames.specs.Form.{eightFrom, storedOf};
+ghost use Rattle.records.specs.Words.{childCount, fullLength};
 ghost use Rattle.records.specs.Own.{headOk, prefixAt};
 use frames::form::Form;
 use lists::scan;
 use prefix::FullLen;
 use prefix::Prefix;
+
+// The words of a head by their numbers: the kind, or 0 where the record is free; the child count; the full length.
+pub const KIND: usize = 0;
+
+pub const CHILDREN: usize = 1;
+
+pub const FULL: usize = 2;
+
+// How many children there are.
+pub fn child_count(rec: &[u32]) -> u32
+    requires { ⌜ 3 ≤ length (now rec) ⌝ }
+    ensures { λ r. ⌜ r ≡ childCount (now (rec .entry)) ⌝ }
+{
+    rec[CHILDREN]
+}
+
+// How many bytes the whole prefix has.
+pub fn full_len(rec: &[u32]) -> FullLen
+    requires { ⌜ 3 ≤ length (now rec) ⌝ }
+    ensures { λ r. ⌜ r .0 ≡ fullLength (now (rec .entry)) ⌝ }
+{
+    FullLen(rec[FULL])
+}
 
 // A word, or 0 past the end.
 fn word(s: &[u32], i: usize) -> u32
@@ -67,7 +91,7 @@ pub fn prefix_at(form: Form, rec: &[u32]) -> Prefix
     ensures { λ r. ⌜ r ≡ prefixAt form (now (rec .entry)) ⌝ }
 {
     Prefix {
-        full: FullLen(rec[2]),
+        full: FullLen(rec[FULL]),
         stored: stored_of(form, rec),
     }
 }
@@ -77,11 +101,11 @@ pub fn head_ok(form: Form, rec: &[u32], kind: u32) -> bool
     requires { ⌜ 3 ≤ length (now rec) ⌝ }
     ensures { λ r. ⌜ r ≡ headOk form kind (now (rec .entry)) ⌝ }
 {
-    let full = FullLen(rec[2]);
+    let full = FullLen(rec[FULL]);
     let s = prefix::stored_len(full);
     let k = s.0 as usize;
     let stored = stored_of(form, rec);
     let bytes = scan::all_at_most(&stored, 255);
     let rest = scan::all_at_most(&stored[k..8], 0);
-    (rec[0] == kind) & (2 <= rec[1]) & (rec[2] <= form.limit) & bytes & rest
+    (rec[KIND] == kind) & (2 <= rec[CHILDREN]) & (rec[FULL] <= form.limit) & bytes & rest
 }

@@ -1,9 +1,10 @@
 // Inner records of any kind: a match on the kind, where the crate has a trait.
 ghost use mathlib.Core.Path.{_≡_};
 ghost use Prim.Native.Nat.{_≤_};
-ghost use lib.ListN.{length, getD};
+ghost use lib.ListN.{length};
 ghost use Rattle.frames.specs.Kind.{childrenOf, bodyWords};
 ghost use Rattle.frames.specs.Form.{recordWords};
+ghost use Rattle.records.specs.Words.{childCount};
 ghost use Rattle.records.specs.Own.{bodyOk, innerOk, BodyFits, InnerFits, childOf, childAt};
 ghost use Rattle.records.specs.Row.{bodyRow, rowAt, entryAt, entryFrom, lastEntry};
 use super::header;
@@ -42,7 +43,7 @@ pub fn inner_ok(form: Form, rec: &[u32], kind: u32) -> bool
     ensures { λ r. ⌜ r ≡ innerOk form kind (now (rec .entry)) ⌝ }
 {
     let row = kind::row_of(kind);
-    let n = rec[1];
+    let n = rec[header::CHILDREN];
     if n <= row.children {
         let head = header::head_ok(form, rec, kind);
         let h = form::header_of(form);
@@ -71,10 +72,10 @@ fn body_child(body: &[u32], kind: u32, n: usize, byte: u8) -> u32
 
 // The reference for a byte, 0 where there is none.
 pub fn lookup_child(form: Form, rec: &[u32], kind: u32, byte: u8) -> u32
-    requires { ⌜ ((1 ≤ kind) × (kind ≤ 4)) × ((length (now rec) ≡ recordWords form kind) × (getD (now rec) 1 0 ≤ childrenOf kind)) ⌝ }
+    requires { ⌜ ((1 ≤ kind) × (kind ≤ 4)) × ((length (now rec) ≡ recordWords form kind) × (childCount (now rec) ≤ childrenOf kind)) ⌝ }
     ensures { λ r. ⌜ r ≡ childAt form kind (now (rec .entry)) byte ⌝ }
 {
-    let n = num(rec, 1);
+    let n = num(rec, header::CHILDREN);
     let h = form::header_of(form);
     let e = form::record_words(form, kind);
     body_child(&rec[h..e], kind, n, byte)
@@ -100,7 +101,7 @@ pub fn nth_child(form: Form, rec: &[u32], kind: u32, i: usize) -> Entry
     requires { ⌜ InnerFits form kind (now rec) ⌝ }
     ensures { λ r. ⌜ r ≡ entryAt i (rowAt form kind (now (rec .entry))) ⌝ }
 {
-    let n = num(rec, 1);
+    let n = num(rec, header::CHILDREN);
     let h = form::header_of(form);
     let e = form::record_words(form, kind);
     body_nth(&rec[h..e], kind, n, i)
@@ -126,7 +127,7 @@ pub fn child_from(form: Form, rec: &[u32], kind: u32, byte: usize) -> Entry
     requires { ⌜ (byte ≤ 256) × InnerFits form kind (now rec) ⌝ }
     ensures { λ r. ⌜ r ≡ entryFrom byte (rowAt form kind (now (rec .entry))) ⌝ }
 {
-    let n = num(rec, 1);
+    let n = num(rec, header::CHILDREN);
     let h = form::header_of(form);
     let e = form::record_words(form, kind);
     body_from(&rec[h..e], kind, n, byte)
@@ -152,7 +153,7 @@ pub fn last_child(form: Form, rec: &[u32], kind: u32) -> Entry
     requires { ⌜ InnerFits form kind (now rec) ⌝ }
     ensures { λ r. ⌜ r ≡ lastEntry (rowAt form kind (now (rec .entry))) ⌝ }
 {
-    let n = num(rec, 1);
+    let n = num(rec, header::CHILDREN);
     let h = form::header_of(form);
     let e = form::record_words(form, kind);
     body_last(&rec[h..e], kind, n)

@@ -128,11 +128,11 @@ fn say_record(rec: &[u32], form: Form, kind: u32)
     requires { ⌜ InnerFits form kind (now rec) ⌝ }
 {
     say(b"kind ");
-    say_number(rec[0]);
+    say_number(rec[records::header::KIND]);
     say(b", prefix ");
     say_prefix(records::header::prefix_at(form, rec));
     say(b", ");
-    say_number(rec[1]);
+    say_number(records::header::child_count(rec));
     say(b" children:");
     say_row(rec, form, kind);
 }
@@ -266,7 +266,7 @@ fn add(rec: &mut [u32], form: Form, kind: u32, byte: u8, reference: u32) -> bool
     requires { ⌜ InnerFits form kind (now rec) ⌝ }
 {
     let row = kind::row_of(kind);
-    let n = rec[1];
+    let n = records::header::child_count(rec);
     if row.children <= n {
         return false;
     }
@@ -298,7 +298,7 @@ fn replace(rec: &mut [u32], form: Form, kind: u32, byte: u8, reference: u32) -> 
 fn remove(rec: &mut [u32], form: Form, kind: u32, byte: u8) -> bool
     requires { ⌜ InnerFits form kind (now rec) ⌝ }
 {
-    if rec[1] <= 2 {
+    if records::header::child_count(rec) <= 2 {
         return false;
     }
     if child_at(rec, form, kind, byte) == 0 {

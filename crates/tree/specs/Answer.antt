@@ -1,7 +1,7 @@
 -- The number that each answer gives back, and its values; on a refusal they are 0.
 use Prim.Native.Nat.{ℕ}
 use mathlib.Core.List.{List}
-use lib.ListN.{getD}
+use Rattle.records.specs.Words.{tagLength}
 use Rattle.records.specs.Own.{totalOf}
 use Rattle.tree.specs.declared.answer.Found.{Found}
 use Rattle.tree.specs.declared.answer.Found.the-variants as found
@@ -47,4 +47,4 @@ abbrev pub leafFound : ℕ → List ℕ → Found
 leafFound n rec = found.Leaf n (totalOf rec)
 
 abbrev pub factsHere : List ℕ → Facts
-factsHere rec = facts.Leaf (getD rec 1 0) (totalOf rec)
+factsHere rec = facts.Leaf (tagLength rec) (totalOf rec)

@@ -13,6 +13,7 @@ use Rattle.prefix.specs.declared.lookup.PrefixMatchBehavior.the-variants.{Pessi
 use Rattle.prefix.specs.declared.lookup.PrefixMatch.{PrefixMatch}
 use Rattle.prefix.specs.declared.lookup.PrefixMatch.the-variants.{On, Off}
 use Rattle.frames.specs.Form.{recordWords}
+use Rattle.records.specs.Words.{tagLength}
 use Rattle.records.specs.Own.{prefixAt, childAt}
 use Rattle.frames.specs.Frame.{rootWord}
 use Rattle.frames.specs.Place.{placeAt}
@@ -43,8 +44,8 @@ fits Begin given held = begins held given
 -- the leaf's tag against the given one, from there on
 abbrev pub leafFits : List ℕ → List ℕ → List ℕ → Aim → ℕ → PrefixMatchBehavior → Bool
 leafFits rec key tag aim depth behavior =
-    let from = compareFrom (length tag) (getD rec 1 0) depth behavior in
-    fits aim (between tag from (length tag)) (between key from (getD rec 1 0))
+    let from = compareFrom (length tag) (tagLength rec) depth behavior in
+    fits aim (between tag from (length tag)) (between key from (tagLength rec))
 
 -- the leaf is found where it fits, else nothing is
 unfoldable pub leafAnswer : List ℕ → List ℕ → List ℕ → Aim → ℕ → ℕ → PrefixMatchBehavior → Found

@@ -75,7 +75,7 @@ fn at_leaf(
     requires { ⌜ LeafFits (length (now key)) (now rec) (now key) ⌝ }
     ensures { λ r. ⌜ r ≡ leafAnswer (now (rec .entry)) (now (key .entry)) (now (tag .entry)) aim number depth behavior ⌝ }
 {
-    let len = frame::num(rec, 1);
+    let len = leaf_node::tag_len(rec);
     let from = compare_from(tag, len, depth, behavior);
     let e = tag.len();
     if fits_aim(&tag[from..e], &key[from..len], aim) {

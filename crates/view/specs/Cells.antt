@@ -2,8 +2,8 @@
 use Prim.Native.Nat.{ℕ}
 use mathlib.Core.Path.{_≡_}
 use mathlib.Core.List.{List}
-use lib.ListN.{getD}
 use Rattle.frames.specs.Place.{recordAt}
+use Rattle.records.specs.Words.{usedAs}
 use Rattle.records.specs.View.{cellOf, ruleAt, blankAt}
 use Rattle.frames.specs.declared.frame.Frame.{Frame}
 use Rattle.art.specs.Stores.{Place, leaf-place, inner-place}
@@ -20,7 +20,7 @@ numberAt (inner-place k n) = n
 
 -- a record is free where its word 0 is 0
 abbrev pub wordZero : Frame → List ℕ → Place → ℕ
-wordZero f words x = getD (recordAt f words x) 0 0
+wordZero f words x = usedAs (recordAt f words x)
 
 -- a place's cell, rule and blankness are as they were
 pub record Same (f : Frame) (words keys words′ keys′ : List ℕ) (x : Place) : Type 0 where

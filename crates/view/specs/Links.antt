@@ -7,6 +7,7 @@ use lib.ListN.{getD}
 use Rattle.lists.specs.Scan.{choose}
 use Rattle.frames.specs.Frame.{firstWord, lastWord}
 use Rattle.frames.specs.Place.{inPool, recordAt}
+use Rattle.records.specs.Words.{previousLeaf, nextLeaf}
 use Rattle.records.specs.View.{cellOf}
 use Rattle.frames.specs.declared.frame.Frame.{Frame}
 use Rattle.art.specs.Stores.{leaf-place, Used}
@@ -23,10 +24,14 @@ pub record Direction (t i : ℕ) : Type 0 where
   pub leaf-low : 2 ≤ i
   pub leaf-high : i ≤ 3
 
--- word i of a leaf; a leaf of no pool has 0
-abbrev pub linkAt : Frame → List ℕ → ℕ → ℕ → ℕ
-linkAt f words i n = choose {A = ℕ} (inPool f (leaf-place n)) (getD (recordAt f words (leaf-place n)) i 0) 0
+-- a word of a leaf, by what reads it; a leaf of no pool has 0
+abbrev pub linkBy : Frame → List ℕ → (List ℕ → ℕ) → ℕ → ℕ
+linkBy f words word n = choose {A = ℕ} (inPool f (leaf-place n)) (word (recordAt f words (leaf-place n))) 0
 
--- first and last are the trailer's; a leaf's words 2 and 3 refer to the leaves before and after it
+-- its word i
+abbrev pub linkAt : Frame → List ℕ → ℕ → ℕ → ℕ
+linkAt f words i n = linkBy f words (λ rec. getD rec i 0) n
+
+-- first and last are the trailer's; a leaf has the references of the leaves before and after it
 unfoldable pub linksOf : Frame → List ℕ → Links
-linksOf f words = record { first = firstWord words; last = lastWord words; prev = linkAt f words 2; next = linkAt f words 3 }
+linksOf f words = record { first = firstWord words; last = lastWord words; prev = linkBy f words previousLeaf; next = linkBy f words nextLeaf }

@@ -3,15 +3,12 @@ use Prim.Native.Nat.{ℕ, _+_, _-_}
 use mathlib.Core.Path.{_≡_, refl, sym, ap, subst, _∙_}
 use mathlib.Core.List.{List}
 use mathlib.Core.Bool.{Bool, true, false, _&&_}
-use native.Mathlib.Omega.{arith}
-use lib.ListN.{getD}
 use lib.Dec.{eqb}
 use borrow.Author.Tests.{eq-eqb, ne-eqb, eqb-false}
 use Rattle.lists.specs.Scan.{choose}
 use Rattle.lists.specs.Part.{between}
-use Rattle.lists.proofs.Parts.{between-at}
-use Rattle.frames.specs.Form.{recordWords}
 use Rattle.frames.specs.declared.frame.Frame.{Frame}
+use Rattle.records.specs.Words.{fullLength, previousLeaf, nextLeaf}
 use Rattle.records.specs.Own.{prefixAt}
 use Rattle.whole.specs.Arrive.{innerRec}
 use Rattle.whole.specs.Witness.{LeafSeen, WitnessSeen, tagAt, goesOn, storedAgrees}
@@ -87,25 +84,21 @@ module _ (f : Frame) (words keys : List ℕ) (row : Row) (depth : ℕ) where
     pub record-parts : agreement w ≡ false → Ill ≡ recordEnd f words keys row depth v
     record-parts g = record-by false g
 
--- ---- a leaf
-module _ (words : List ℕ) (start ref : ℕ) (s : Seen) where
-  abbrev linked : List ℕ → Bool
-  linked rec = eqb (getD rec 2 0) (s .prev) && eqb (s .next) ref
+-- ---- a leaf, by its links
+module _ (rec : List ℕ) (ref : ℕ) (s : Seen) {prev next : ℕ} (p : prev ≡ previousLeaf rec) (n : next ≡ nextLeaf rec) where
+  abbrev ahead : ℕ → Visit
+  ahead x = Well ref (record { prev = ref; next = x; count = s .count + 1 })
 
-  leaf-by : (b : Bool) → eqb (getD words (start + 2) 0) (s .prev) && eqb (s .next) ref ≡ b
-      → choose b (Well ref (record { prev = ref; next = getD words (start + 3) 0; count = s .count + 1 })) Ill ≡ leafVisit (between words start (start + 6)) ref s
+  leaf-by : (b : Bool) → eqb prev (s .prev) && eqb (s .next) ref ≡ b → choose b (ahead next) Ill ≡ leafVisit rec ref s
   unfolding leafVisit
   leaf-by b e =
-      let p : getD words (start + 2) 0 ≡ getD (between words start (start + 6)) 2 0 = sym (between-at words start (start + 6) 2 (omega arith)) in
-      let n : getD words (start + 3) 0 ≡ getD (between words start (start + 6)) 3 0 = sym (between-at words start (start + 6) 3 (omega arith)) in
-      ap (λ (b : Bool). choose b (Well ref (record { prev = ref; next = getD words (start + 3) 0; count = s .count + 1 })) Ill) (sym e ∙ ap (λ (x : ℕ). eqb x (s .prev) && eqb (s .next) ref) p)
-      ∙ ap (λ (x : ℕ). choose (linked (between words start (start + 6))) (Well ref (record { prev = ref; next = x; count = s .count + 1 })) Ill) n
+      ap (λ (b : Bool). choose b (ahead next) Ill) (sym e ∙ ap (λ (x : ℕ). eqb x (s .prev) && eqb (s .next) ref) p)
+      ∙ ap (λ (x : ℕ). choose (eqb (previousLeaf rec) (s .prev) && eqb (s .next) ref) (ahead x) Ill) n
 
-  pub leaf-well : eqb (getD words (start + 2) 0) (s .prev) && eqb (s .next) ref ≡ true
-      → Well ref (record { prev = ref; next = getD words (start + 3) 0; count = s .count + 1 }) ≡ leafVisit (between words start (start + 6)) ref s
+  pub leaf-well : eqb prev (s .prev) && eqb (s .next) ref ≡ true → ahead next ≡ leafVisit rec ref s
   leaf-well e = leaf-by true e
 
-  pub leaf-parts : eqb (getD words (start + 2) 0) (s .prev) && eqb (s .next) ref ≡ false → Ill ≡ leafVisit (between words start (start + 6)) ref s
+  pub leaf-parts : eqb prev (s .prev) && eqb (s .next) ref ≡ false → Ill ≡ leafVisit rec ref s
   leaf-parts e = leaf-by false e
 
 -- ---- what is to be done
@@ -113,11 +106,10 @@ module _ (f : Frame) (words : List ℕ) (ref depth : ℕ) (s : Seen) {a : Arriva
   pub turn-leaf : {n start : ℕ} {v : Visit} → a ≡ Leaf n start → v ≡ leafVisit (between words start (start + 6)) ref s → Done v ≡ turnOf f words ref depth s a
   turn-leaf e h = ap Done h ∙ ap (turnOf f words ref depth s) (sym e)
 
-  pub turn-inner : {kind start n : ℕ} → a ≡ Inner kind start → n ≡ getD words (start + 2) 0
+  pub turn-inner : {kind start n : ℕ} → a ≡ Inner kind start → n ≡ fullLength (innerRec (f .form) words kind start)
       → Branch (record { kind = kind; start = start; depth = depth + n }) ≡ turnOf f words ref depth s a
-  turn-inner {kind} {start} {n} e h =
-      let q : n ≡ getD (innerRec (f .form) words kind start) 2 0 = h ∙ sym (between-at words start (start + recordWords (f .form) kind) 2 (omega arith)) in
-      ap (λ (x : ℕ). Branch (record { kind = kind; start = start; depth = depth + x })) q ∙ ap (turnOf f words ref depth s) (sym e)
+  turn-inner {kind} {start} e h =
+      ap (λ (x : ℕ). Branch (record { kind = kind; start = start; depth = depth + x })) h ∙ ap (turnOf f words ref depth s) (sym e)
 
   pub turn-broken : a ≡ Broken → Done Ill ≡ turnOf f words ref depth s a
   turn-broken e = ap (turnOf f words ref depth s) (sym e)

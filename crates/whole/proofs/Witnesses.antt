@@ -11,12 +11,13 @@ use borrow.Author.Tests.{lt-ltb, le-ltb}
 use Rattle.lists.specs.Compare.{shared}
 use Rattle.lists.specs.Part.{between}
 use Rattle.lists.proofs.Compares.{shared-nil}
-use Rattle.lists.proofs.Parts.{between-at, between-front}
+use Rattle.lists.proofs.Parts.{between-front}
 use Rattle.prefix.specs.Run.{capped, held}
 use Rattle.prefix.specs.declared.Prefix.{Prefix}
 use Rattle.frames.specs.Frame.{FrameOf}
 use Rattle.frames.specs.Place.{placeAt, inPool, startAt, recordAt, keyAt}
 use Rattle.frames.specs.declared.frame.Frame.{Frame}
+use Rattle.records.specs.Words.{tagLength}
 use Rattle.records.proofs.Owns.{leaf-rule}
 use Rattle.art.specs.Stores.{leaf-place}
 use Rattle.whole.specs.Witness.{LeafSeen, lengthAt, tagAt, goesOn, storedAgrees}
@@ -35,12 +36,10 @@ module _ {f : Frame} {words keys : List ℕ} (w : FrameOf f words keys) {ref : �
     pub seen-room : start + 6 ≤ length words
     seen-room = leaf-in w (placeAt ref) (ref / 8) start (leaf-named ref (l .kind)) s (seen-pool l) .0
 
-    pub seen-length : (n : ℕ) → n ≡ getD words (start + 1) 0 → (n ≡ lengthAt f words ref) × (n ≤ f .form .limit)
+    pub seen-length : (n : ℕ) → n ≡ tagLength (between words start (start + 6)) → (n ≡ lengthAt f words ref) × (n ≤ f .form .limit)
     seen-length n e =
         let q : start ≡ startAt f (leaf-place (ref / 8)) = s ∙ ap (startAt f) (leaf-named ref (l .kind)) in
-        let a = startAt f (leaf-place (ref / 8)) in
-        let t : n ≡ lengthAt f words ref =
-        e ∙ ap (λ (b : ℕ). getD words (b + 1) 0) q ∙ sym (between-at words a (a + 6) 1 (omega arith)) in
+        let t : n ≡ lengthAt f words ref = e ∙ ap (λ (b : ℕ). tagLength (between words b (b + 6))) q in
         (t, omega (arith, leaf-rule (f .form .limit) (recordAt f words (leaf-place (ref / 8))) (keyAt f keys (ref / 8)) (l .rule) .short))
 
 pub seen-tag : (f : Frame) (words keys : List ℕ) (ref n : ℕ) → n ≡ lengthAt f words ref → n ≤ f .form .limit

@@ -2,13 +2,13 @@
 use Prim.Native.Nat.{ℕ, zero, suc, _+_, _*_, _≤_}
 use mathlib.Core.List.{List, [], _∷_}
 use mathlib.Core.Bool.{_&&_}
-use lib.ListN.{getD}
 use lib.Dec.{eqb, leb}
 use Rattle.lists.specs.Scan.{choose, count, nonzero}
 use Rattle.lists.specs.Part.{between}
 use Rattle.frames.specs.Frame.{FrameOf}
 use Rattle.frames.specs.Place.{placeAt}
 use Rattle.frames.specs.declared.frame.Frame.{Frame}
+use Rattle.records.specs.Words.{fullLength, previousLeaf, nextLeaf}
 use Rattle.records.specs.Own.{prefixAt}
 use Rattle.records.specs.Row.{rowAt}
 use Rattle.tree.specs.Arrive.{arrivalAt, InnerThere}
@@ -36,12 +36,12 @@ way v m = record { visit = v; marks = m }
 -- a leaf comes after the leaf seen last, both ways
 unfoldable pub leafVisit : List ℕ → ℕ → Seen → Visit
 leafVisit rec ref s =
-    choose (eqb (getD rec 2 0) (s .prev) && eqb (s .next) ref) (Well ref (record { prev = ref; next = getD rec 3 0; count = s .count + 1 })) Ill
+    choose (eqb (previousLeaf rec) (s .prev) && eqb (s .next) ref) (Well ref (record { prev = ref; next = nextLeaf rec; count = s .count + 1 })) Ill
 
 -- what is to be done at a record: a leaf is seen, an inner record's row branches past its run
 abbrev pub turnOf : Frame → List ℕ → ℕ → ℕ → Seen → Arrival → Turn
 turnOf f words ref depth s (Leaf n start) = Done (leafVisit (between words start (start + 6)) ref s)
-turnOf f words ref depth s (Inner kind start) = Branch (record { kind = kind; start = start; depth = depth + getD (innerRec (f .form) words kind start) 2 0 })
+turnOf f words ref depth s (Inner kind start) = Branch (record { kind = kind; start = start; depth = depth + fullLength (innerRec (f .form) words kind start) })
 turnOf f words ref depth s Broken = Done Ill
 
 -- a record that is not yet reached and obeys its own rule, with so many inner records left on the path

@@ -10,6 +10,7 @@ use Rattle.prefix.specs.Run.{capped, held}
 use Rattle.prefix.specs.declared.Prefix.{Prefix}
 use Rattle.frames.specs.Place.{inPool, recordAt, keyAt}
 use Rattle.frames.specs.declared.frame.Frame.{Frame}
+use Rattle.records.specs.Words.{tagLength}
 use Rattle.records.specs.View.{ruleAt}
 use Rattle.art.specs.Stores.{leaf-place}
 
@@ -25,7 +26,7 @@ pub record WitnessSeen (f : Frame) (words keys : List ℕ) (ref : ℕ) : Type 0 
 
 -- the length of the leaf's tag, and the tag
 abbrev pub lengthAt : Frame → List ℕ → ℕ → ℕ
-lengthAt f words ref = getD (recordAt f words (leaf-place (ref / 8))) 1 0
+lengthAt f words ref = tagLength (recordAt f words (leaf-place (ref / 8)))
 
 unfoldable pub tagAt : Frame → List ℕ → List ℕ → ℕ → List ℕ
 tagAt f words keys ref = take (lengthAt f words ref) (keyAt f keys (ref / 8))

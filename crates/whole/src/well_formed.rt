@@ -5,6 +5,7 @@ ghost use Prim.Native.Nat.{_≤_, _<_, _+_, _^_};
 ghost use lib.ListN.{length};
 ghost use Rattle.lists.specs.Part.{between};
 ghost use Rattle.frames.specs.Frame.{FrameOf};
+ghost use Rattle.records.specs.Words.{fullLength};
 ghost use Rattle.records.specs.Row.{entryFrom, rowAt};
 ghost use Rattle.tree.specs.Arrive.{InnerThere};
 ghost use Rattle.whole.specs.Arrive.{There, innerRec};
@@ -15,8 +16,9 @@ use super::marks;
 use super::witness;
 use frames::form;
 use frames::form::Form;
-use frames::frame;
 use frames::frame::Frame;
+use records::header;
+use records::leaf_node;
 use records::representation;
 use records::representation::Entry;
 use tree::arrive;
@@ -53,8 +55,10 @@ fn leaf_visit(words: &[u32], start: usize, reference: u32, s: Seen) -> Visit
     requires { ⌜ (start + 6 ≤ length (now words)) × (s .count + 1 < 2 ^ 64) ⌝ }
     ensures { λ r. ⌜ r ≡ leafVisit (between (now (words .entry)) start (start + 6)) reference s ⌝ }
 {
-    let prev = words[start + 2];
-    let next = words[start + 3];
+    let e = start + 6;
+    let rec = &words[start..e];
+    let prev = leaf_node::previous(rec);
+    let next = leaf_node::next(rec);
     if (prev == s.prev) & (s.next == reference) {
         return Visit::Well(
             reference,
@@ -68,6 +72,16 @@ fn leaf_visit(words: &[u32], start: usize, reference: u32, s: Seen) -> Visit
     Visit::Ill
 }
 
+// How many bytes an inner record's run has.
+fn run_len(words: &[u32], form: Form, kind: u32, start: usize) -> usize
+    requires { ⌜ InnerThere form (now words) kind start ⌝ }
+    ensures { λ r. ⌜ (r ≡ fullLength (innerRec form (now (words .entry)) kind start)) × (r < 2 ^ 32) ⌝ }
+{
+    let e = start + form::record_words(form, kind);
+    let full = header::full_len(&words[start..e]);
+    full.0 as usize
+}
+
 // What is to be done at a record that is marked now.
 fn turn_of(words: &[u32], f: Frame, a: Arrival, reference: u32, depth: usize, s: Seen) -> Turn
     requires { ⌜ There f (now words) a × ((s .count + 1 < 2 ^ 64) × (depth ≤ 65536)) ⌝ }
@@ -78,7 +92,7 @@ fn turn_of(words: &[u32], f: Frame, a: Arrival, reference: u32, depth: usize, s:
         Arrival::Inner(kind, start) => Turn::Branch(Row {
             kind: kind,
             start: start,
-            depth: depth + frame::num(words, start + 2),
+            depth: depth + run_len(words, f.form, kind, start),
         }),
         Arrival::Broken => Turn::Done(Visit::Ill),
     }

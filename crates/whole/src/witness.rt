@@ -13,6 +13,7 @@ use frames::frame::Frame;
 use lists::compare;
 use prefix::Prefix;
 use records::header;
+use records::leaf_node;
 
 // How many bytes a leaf's tag has.
 fn tag_len(words: &[u32], keys: &[u8], f: Frame, leaf: u32) -> usize
@@ -20,7 +21,8 @@ fn tag_len(words: &[u32], keys: &[u8], f: Frame, leaf: u32) -> usize
     ensures { λ r. ⌜ (r ≡ lengthAt f (now (words .entry)) leaf) × (r ≤ f .form .limit) ⌝ }
 {
     let start = frame::start_at(f, leaf);
-    frame::num(words, start + 1)
+    let e = start + 6;
+    leaf_node::tag_len(&words[start..e])
 }
 
 // A leaf's tag, as a part of the key bytes.

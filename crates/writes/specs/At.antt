@@ -3,11 +3,12 @@ use Prim.Native.Nat.{ℕ, _+_, _≤_, _<_}
 use mathlib.Core.Path.{_≡_}
 use mathlib.Core.List.{List}
 use mathlib.Core.Bool.{true}
-use lib.ListN.{getD, set, replicate}
+use lib.ListN.{set, replicate}
 use Rattle.prefix.specs.declared.Prefix.{Prefix}
 use Rattle.frames.specs.Kind.{childrenOf}
 use Rattle.frames.specs.Place.{inPool, sizeAt, recordAt, putAt}
 use Rattle.frames.specs.declared.frame.Frame.{Frame}
+use Rattle.records.specs.Words.{childCount}
 use Rattle.records.specs.Own.{prefixAt}
 use Rattle.records.specs.Row.{directRow}
 use Rattle.art.specs.Stores.{Place}
@@ -49,7 +50,7 @@ clearAt f x words = putAt f words x (replicate (sizeAt f x) 0)
 -- it has room for a child
 pub record Roomy (f : Frame) (words : List ℕ) (x : Place) : Type 0 where
   pub here : InnerHere f words x
-  pub room : getD (recordAt f words x) 1 0 < childrenOf (kindAt x)
+  pub room : childCount (recordAt f words x) < childrenOf (kindAt x)
 
 -- what a change needs: room for a child more, else the child
 abbrev pub Changes : Frame → List ℕ → Place → ℕ → Change → Type 0
@@ -65,10 +66,10 @@ pub record InnerPlace (f : Frame) (x : Place) : Type 0 where
 pub record Moves (f : Frame) (words : List ℕ) (x y : Place) : Type 0 where
   pub from : InnerHere f words x
   pub to : InnerPlace f y
-  pub room : getD (recordAt f words x) 1 0 ≤ childrenOf (kindAt y)
+  pub room : childCount (recordAt f words x) ≤ childrenOf (kindAt y)
 
 -- and so without the child for a byte
 pub record Drops (f : Frame) (words : List ℕ) (x y : Place) (byte : ℕ) : Type 0 where
   pub from : HasChild f words x byte
   pub to : InnerPlace f y
-  pub room : getD (recordAt f words x) 1 0 ≤ childrenOf (kindAt y) + 1
+  pub room : childCount (recordAt f words x) ≤ childrenOf (kindAt y) + 1

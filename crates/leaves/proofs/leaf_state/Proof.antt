@@ -1,8 +1,10 @@
 -- `leaves::leaf_state` meets its contract: each return is a case of `leafState`; a leaf of the pool lies within the slices.
+use mathlib.Core.Path.{ap, _∙_}
 use native.Mathlib.Omega.{arith}
 use borrow.Author.Tests.{le-ltb}
 use Rattle.frames.proofs.Frames.{framed, caps-most}
 use Rattle.frames.proofs.Places.{place-leaf}
+use Rattle.records.specs.Words.{usedAs}
 use Rattle.tree.proofs.Arrivals.{fails, holds, leaf-in}
 use Rattle.leaves.proofs.Leaves.{ref-pooled, state-outside, state-free, state-broken, state-good}
 use borrow.Author.Needs.{needs}
@@ -23,38 +25,37 @@ start-at-requires c κs =
     let s = c .before .before .before .before in
     (framed (s .pre), ref-pooled (s .args .f) (s .args .number) (c .if1 .left))
 
-mul-if2 : tie.Need-mul-if2
-mul-if2 c =
+leaf-words-requires : tie.Need-leaf-words-requires
+leaf-words-requires c κs =
     let s = c .before .before .before .before .before in
     let p = ref-pooled (s .args .f) (s .args .number) (c .before .if1 .left) in
-    omega (arith, leaf-in (s .pre) _ _ _ (place-leaf (s .args .number)) (c .start-at .ensures) p .0)
-
-shared-slice-read-if2 : tie.Need-shared-slice-read-if2
-shared-slice-read-if2 c =
-    let s = c .before .before .before .before .before .before in
-    let p = ref-pooled (s .args .f) (s .args .number) (c .before .before .if1 .left) in
-    omega (arith, leaf-in (s .pre) _ _ _ (place-leaf (s .args .number)) (c .before .start-at .ensures) p .0)
+    leaf-in (s .pre) _ _ _ (place-leaf (s .args .number)) (c .start-at .ensures) p .0
 
 returns-2 : tie.Need-returns-2
 returns-2 c =
-    let s = c .before .before .before .before .before .before .before .args in
-    state-free (s .f) _ _ (s .number) (c .before .before .before .if1 .left) _ (c .before .before .start-at .ensures) (c .if2 .taken)
+    let t = c .before .before .before in
+    let s = t .before .before .before .before .before .args in
+    state-free (s .f) _ _ (s .number) (t .before .if1 .left) _ (t .start-at .ensures) (c .before .used-as .ensures ∙ ap usedAs (c .before .before .leaf-words .ensures .0)) (c .if2 .taken)
 
 rule-at-requires : tie.Need-rule-at-requires
 rule-at-requires c κs =
-    let s = c .before .before .before .before .before .before .before in
-    (s .pre, ref-pooled (s .args .f) (s .args .number) (c .before .before .before .if1 .left))
+    let s = c .before .before .before .before .before .before .before .before in
+    (s .pre, ref-pooled (s .args .f) (s .args .number) (c .before .before .before .before .if1 .left))
 
 returns-3 : tie.Need-returns-3
 returns-3 c =
-    let s = c .before .before .before .before .before .before .before .before .before .args in
-    state-broken (s .f) _ _ (s .number) (c .before .before .before .before .before .if1 .left) _ (c .before .before .before .before .start-at .ensures) (c .before .before .if2 .left)
+    let u = c .before .before in
+    let t = u .before .before .before in
+    let s = t .before .before .before .before .before .args in
+    state-broken (s .f) _ _ (s .number) (t .before .if1 .left) _ (t .start-at .ensures) (u .before .used-as .ensures ∙ ap usedAs (u .before .before .leaf-words .ensures .0)) (u .if2 .left)
     (fails (c .before .rule-at .ensures) (c .if3 .taken))
 
 returns-4 : tie.Need-returns-4
 returns-4 c =
-    let s = c .before .before .before .before .before .before .before .before .before .args in
-    state-good (s .f) _ _ (s .number) (c .before .before .before .before .before .if1 .left) _ (c .before .before .before .before .start-at .ensures) (c .before .before .if2 .left)
+    let u = c .before .before in
+    let t = u .before .before .before in
+    let s = t .before .before .before .before .before .args in
+    state-good (s .f) _ _ (s .number) (t .before .if1 .left) _ (t .start-at .ensures) (u .before .used-as .ensures ∙ ap usedAs (u .before .before .leaf-words .ensures .0)) (u .if2 .left)
     (holds (c .before .rule-at .ensures) (c .if3 .left))
 
 pub leaf-state-spec : {M : Type 1} → statement M
@@ -66,8 +67,8 @@ leaf-state-spec =
     mul-reference
     add-reference
     start-at-requires
-    mul-if2
-    shared-slice-read-if2
+    leaf-words-requires
+    (λ c κs. search needs)
     returns-2
     rule-at-requires
     returns-3

@@ -1,9 +1,9 @@
--- `leaves::next_leaf` meets its contract: the next reference is word 3 of a leaf that lies within the words, and each arm is a case of `nextFrom`.
+-- `leaves::next_leaf` meets its contract: the next reference is read from a leaf that lies within the words, and each arm is a case of `nextFrom`.
 use mathlib.Core.Path.{sym, ap, _∙_}
-use native.Mathlib.Omega.{arith}
+use Rattle.records.specs.Words.{nextLeaf}
 use Rattle.leaves.specs.Leaf.{nextOf}
 use Rattle.tree.proofs.Arrivals.{frame-out}
-use Rattle.leaves.proofs.Leaves.{good-leaf, good-word, next-by}
+use Rattle.leaves.proofs.Leaves.{good-leaf, good-record, next-by}
 use borrow.Author.Needs.{needs}
 use Rattle.leaves.proofs.next_leaf.Statement.{statement}
 use Rattle.leaves.proofs.next_leaf.Tie as tie
@@ -11,20 +11,17 @@ use Rattle.leaves.proofs.next_leaf.Tie as tie
 frame-at-requires : tie.Need-frame-at-requires
 frame-at-requires c κs = sym (c .before .frame-fits .ensures) ∙ c .if1 .taken
 
-add-next-of : tie.Need-add-next-of
-add-next-of c = omega (arith, good-leaf (c .before .before .before .before .frame-at .ensures) _ _ (sym (c .before .before .before .leaf-state .ensures) ∙ c .before .s .given .1) .there .room)
-
-mul-next-of : tie.Need-mul-next-of
-mul-next-of c = omega (arith, good-leaf (c .before .before .before .before .frame-at .ensures) _ _ (sym (c .before .before .before .leaf-state .ensures) ∙ c .before .s .given .1) .there .room)
-
-shared-slice-read-next-of : tie.Need-shared-slice-read-next-of
-shared-slice-read-next-of c = omega (arith, good-leaf (c .before .before .before .before .before .frame-at .ensures) _ _ (sym (c .before .before .before .before .leaf-state .ensures) ∙ c .before .before .s .given .1) .there .room)
+leaf-words-requires : tie.Need-leaf-words-requires
+leaf-words-requires c κs = good-leaf (c .before .before .before .before .frame-at .ensures) _ _ (sym (c .before .before .before .leaf-state .ensures) ∙ c .before .s .given .1) .there .room
 
 returns : tie.Need-returns
 returns c =
-    let w = c .before .before .before .before .before .before .frame-at .ensures in
-    let e = sym (c .before .before .before .before .before .leaf-state .ensures) ∙ c .before .before .before .s .given .1 in
-    c .next-of .ensures ∙ ap (nextOf _ _) (good-word (good-leaf w _ _ e) 3 (omega arith)) ∙ next-by w _ _ e
+    let t = c .before .before .before .before in
+    let w = t .before .before .before .frame-at .ensures in
+    let e = sym (t .before .before .leaf-state .ensures) ∙ t .s .given .1 in
+    c .next-of .ensures
+    ∙ ap (nextOf _ _) (c .before .next .ensures ∙ ap nextLeaf (c .before .before .leaf-words .ensures .0 ∙ sym (good-record (good-leaf w _ _ e))))
+    ∙ next-by w _ _ e
 
 returns-2 : tie.Need-returns-2
 returns-2 c = next-by (c .before .before .before .frame-at .ensures) _ _ (sym (c .before .before .leaf-state .ensures) ∙ c .enum-told .given .1)
@@ -43,9 +40,8 @@ next-leaf-spec =
     frame-at-requires
     (λ c κs. search needs)
     (λ c. search needs)
-    add-next-of
-    mul-next-of
-    shared-slice-read-next-of
+    leaf-words-requires
+    (λ c κs. search needs)
     (λ c κs. search needs)
     (λ c. search needs)
     (λ c. search needs)

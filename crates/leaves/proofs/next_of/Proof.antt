@@ -1,9 +1,10 @@
 -- `leaves::next_of` meets its contract: each return is a case of `nextOf`; a leaf of the pool lies within the words.
-use mathlib.Core.Path.{_∙_}
-use native.Mathlib.Omega.{arith}
+use mathlib.Core.Path.{ap, _∙_}
 use Rattle.frames.proofs.Frames.{framed}
+use Rattle.records.specs.Words.{usedAs}
 use Rattle.tree.proofs.Arrivals.{fails, holds, leaf-named, inner-named, leaf-in}
 use Rattle.leaves.proofs.Leaves.{next-none, next-inner, next-outside, next-unused, next-found}
+use borrow.Author.Needs.{needs}
 use Rattle.leaves.proofs.next_of.Statement.{statement}
 use Rattle.leaves.proofs.next_of.Tie as tie
 
@@ -25,43 +26,40 @@ returns-3 c =
 start-at-requires : tie.Need-start-at-requires
 start-at-requires c κs = (framed (c .before .before .before .before .before .before .pre), holds (c .before .in-pool .ensures) (c .if3 .left))
 
-mul-if4 : tie.Need-mul-if4
-mul-if4 c =
+leaf-words-requires : tie.Need-leaf-words-requires
+leaf-words-requires c κs =
     let p = c .before in
     let k = p .before .before in
     let s = k .before .before .before .before in
-    omega (arith, leaf-in (s .pre) _ _ _ (leaf-named (s .args .next) (k .if2 .left)) (c .start-at .ensures) (holds (p .before .in-pool .ensures) (p .if3 .left)) .0)
-
-shared-slice-read-if4 : tie.Need-shared-slice-read-if4
-shared-slice-read-if4 c =
-    let p = c .before .before in
-    let k = p .before .before in
-    let s = k .before .before .before .before in
-    omega (arith, leaf-in (s .pre) _ _ _ (leaf-named (s .args .next) (k .if2 .left)) (c .before .start-at .ensures) (holds (p .before .in-pool .ensures) (p .if3 .left)) .0)
+    leaf-in (s .pre) _ _ _ (leaf-named (s .args .next) (k .if2 .left)) (c .start-at .ensures) (holds (p .before .in-pool .ensures) (p .if3 .left)) .0
 
 returns-4 : tie.Need-returns-4
 returns-4 c =
-    let p = c .before .before .before in
+    let t = c .before .before .before in
+    let p = t .before in
     let k = p .before .before in
     let s = k .before .before .before .before .args in
-    next-unused _ _ _ (k .before .if1 .left) _ (leaf-named (s .next) (k .if2 .left)) (holds (p .before .in-pool .ensures) (p .if3 .left)) _
-    (c .before .before .start-at .ensures) (c .if4 .taken)
+    next-unused _ _ _ (k .before .if1 .left) _ (leaf-named (s .next) (k .if2 .left)) (holds (p .before .in-pool .ensures) (p .if3 .left)) _ (t .start-at .ensures)
+    (c .before .used-as .ensures ∙ ap usedAs (c .before .before .leaf-words .ensures .0)) (c .if4 .taken)
 
 leaf-found-requires : tie.Need-leaf-found-requires
 leaf-found-requires c κs =
-    let p = c .before .before .before in
+    let t = c .before .before .before in
+    let p = t .before in
     let k = p .before .before in
     let s = k .before .before .before .before in
-    leaf-in (s .pre) _ _ _ (leaf-named (s .args .next) (k .if2 .left)) (c .before .before .start-at .ensures) (holds (p .before .in-pool .ensures) (p .if3 .left)) .0
+    leaf-in (s .pre) _ _ _ (leaf-named (s .args .next) (k .if2 .left)) (t .start-at .ensures) (holds (p .before .in-pool .ensures) (p .if3 .left)) .0
 
 returns-5 : tie.Need-returns-5
 returns-5 c =
-    let p = c .before .before .before .before in
+    let u = c .before in
+    let t = u .before .before .before in
+    let p = t .before in
     let k = p .before .before in
     let s = k .before .before .before .before .args in
     c .leaf-found .ensures
-    ∙ next-found _ _ _ (k .before .if1 .left) _ (leaf-named (s .next) (k .if2 .left)) (holds (p .before .in-pool .ensures) (p .if3 .left)) _
-    (c .before .before .before .start-at .ensures) (c .before .if4 .left)
+    ∙ next-found _ _ _ (k .before .if1 .left) _ (leaf-named (s .next) (k .if2 .left)) (holds (p .before .in-pool .ensures) (p .if3 .left)) _ (t .start-at .ensures)
+    (u .before .used-as .ensures ∙ ap usedAs (u .before .before .leaf-words .ensures .0)) (u .if4 .left)
 
 pub next-of-spec : {M : Type 1} → statement M
 next-of-spec =
@@ -72,8 +70,8 @@ next-of-spec =
     in-pool-requires
     returns-3
     start-at-requires
-    mul-if4
-    shared-slice-read-if4
+    leaf-words-requires
+    (λ c κs. search needs)
     returns-4
     leaf-found-requires
     returns-5)

@@ -5,7 +5,7 @@ use Rattle.range.proofs.tag_below.Statement.{statement}
 use Rattle.range.proofs.tag_below.Tie as tie
 
 returns : tie.Need-returns
-returns c = tag-by _ _ _ (c .before .before .num .ensures .0) (c .less-bytes .ensures)
+returns c = tag-by _ _ _ (c .before .before .tag-len .ensures .0) (c .less-bytes .ensures)
 
 pub tag-below-spec : {M : Type 1} → statement M
 tag-below-spec =

@@ -4,19 +4,14 @@ use mathlib.Core.Path.{ap}
 use native.Mathlib.Omega.{arith}
 use Rattle.frames.specs.declared.kind.KindRow.{KindRow}
 use Rattle.frames.proofs.KindTable.{kind-rules}
-use Rattle.points.proofs.Here.{here-kind, here-head}
+use Rattle.points.proofs.Here.{here-kind}
 use Rattle.delete.proofs.Planning.{mark-two, under-two, under-low, under-stay}
 use borrow.Author.Needs.{needs}
 use Rattle.delete.proofs.plan.cut_under.Statement.{statement}
 use Rattle.delete.proofs.plan.cut_under.Tie as tie
 
-word-at-requires : tie.Need-word-at-requires
-word-at-requires c κs =
-    let s = c .before .before in
-    (s .pre .0, (s .pre .1 .pool, omega (arith, here-head (s .args .reference) (s .pre .1))))
-
 returns : tie.Need-returns
-returns c = under-two _ _ _ _ _ (c .before .before .word-at .ensures) (c .before .if1 .taken) (c .merge-cut .ensures)
+returns c = under-two _ _ _ _ _ (c .before .before .children-at .ensures) (c .before .if1 .taken) (c .merge-cut .ensures)
 
 row-of-requires : tie.Need-row-of-requires
 row-of-requires c κs = here-kind _ (c .before .before .before .before .pre .1)
@@ -37,18 +32,18 @@ shrink-cut-requires c κs =
 returns-2 : tie.Need-returns-2
 returns-2 c =
     let t = c .before .before .before in
-    under-low _ _ _ _ _ (t .before .before .word-at .ensures) (t .before .if1 .left) (t .row-of .ensures) (c .before .if2 .taken) (c .shrink-cut .ensures)
+    under-low _ _ _ _ _ (t .before .before .children-at .ensures) (t .before .if1 .left) (t .row-of .ensures) (c .before .if2 .taken) (c .shrink-cut .ensures)
 
 returns-3 : tie.Need-returns-3
 returns-3 c =
     let t = c .before .before in
-    under-stay _ _ _ _ _ (t .before .before .word-at .ensures) (t .before .if1 .left) (t .row-of .ensures) (c .if2 .left)
+    under-stay _ _ _ _ _ (t .before .before .children-at .ensures) (t .before .if1 .left) (t .row-of .ensures) (c .if2 .left)
 
 pub cut-under-spec : {M : Type 1} → statement M
 cut-under-spec =
     tie.close
     (tie.spec
-    word-at-requires
+    (λ c κs. search needs)
     (λ c κs. search needs)
     returns
     row-of-requires

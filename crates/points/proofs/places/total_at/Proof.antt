@@ -1,60 +1,12 @@
--- `places::total_at` meets its contract: a leaf of the pool lies within the words.
-use Prim.Native.Nat.{_+_}
+-- `places::total_at` meets its contract: the total is read from the leaf's words.
 use mathlib.Core.Path.{ap, _∙_}
-use native.Mathlib.Omega.{arith}
 use borrow.Author.Needs.{needs}
-use Rattle.lists.specs.Part.{between}
-use Rattle.frames.specs.Place.{startAt}
-use Rattle.frames.proofs.Frames.{framed}
 use Rattle.records.specs.Own.{totalOf}
-use Rattle.points.proofs.Here.{leaf-small, leaf-names, leaf-there, leaf-within}
 use Rattle.points.proofs.places.total_at.Statement.{statement}
 use Rattle.points.proofs.places.total_at.Tie as tie
 
-reference-to-requires : tie.Need-reference-to-requires
-reference-to-requires c κs =
-    let s = c .before .before in
-    (omega arith, leaf-small (s .pre .0) (s .args .n) (s .pre .1))
-
-start-at-requires : tie.Need-start-at-requires
-start-at-requires c κs =
-    let s = c .before .before .before in
-    (framed (s .pre .0), leaf-there (s .pre .0) (s .args .n) (s .pre .1) (c .reference-to .ensures))
-
-add-e : tie.Need-add-e
-add-e c =
-    let s = c .before .before .before .before in
-    omega (arith, leaf-within (s .pre .0) (s .args .n) (s .pre .1) (c .before .reference-to .ensures) (c .start-at .ensures))
-
-mul-total-of : tie.Need-mul-total-of
-mul-total-of c =
-    let s = c .before .before .before .before in
-    omega (arith, leaf-within (s .pre .0) (s .args .n) (s .pre .1) (c .before .reference-to .ensures) (c .start-at .ensures))
-
-part-total-of-end : tie.Need-part-total-of-end
-part-total-of-end c =
-    let s = c .before .before .before .before in
-    omega (arith, leaf-within (s .pre .0) (s .args .n) (s .pre .1) (c .before .reference-to .ensures) (c .start-at .ensures))
-
 returns : tie.Need-returns
-returns c =
-    let t = c .before .before in
-    let s = t .before .before .before .before in
-    let a = s .args in
-    c .total-of .ensures
-    ∙ ap (λ i. totalOf (between (a .words .now) i (i + 6)))
-    (t .start-at .ensures ∙ ap (startAt (a .f)) (leaf-names (s .pre .0) (a .n) (s .pre .1) (t .before .reference-to .ensures)))
+returns c = c .total-of .ensures ∙ ap totalOf (c .before .leaf-at .ensures .0)
 
 pub total-at-spec : {M : Type 1} → statement M
-total-at-spec =
-    tie.close
-    (tie.spec
-    reference-to-requires
-    start-at-requires
-    add-e
-    mul-total-of
-    (λ c. search needs)
-    (λ c. search needs)
-    part-total-of-end
-    (λ c κs. search needs)
-    returns)
+total-at-spec = tie.close (tie.spec (λ c κs. search needs) (λ c κs. search needs) returns)

@@ -7,11 +7,11 @@ use Rattle.records.proofs.leaf_node.leaf_ok.Tie as tie
 
 returns : tie.Need-returns
 unfolding leafOk
-returns c = simp (← (c .before .before .before .before .num .ensures .0), le-leb _ _ (c .before .before .before .if1 .taken), (c .before .bytes-zero .ensures))
+returns c = simp (← (c .before .before .before .before .tag-len .ensures .0), le-leb _ _ (c .before .before .before .if1 .taken), (c .before .bytes-zero .ensures))
 
 returns-2 : tie.Need-returns-2
 unfolding leafOk
-returns-2 c = simp (← (c .before .num .ensures .0), lt-leb _ _ (c .if1 .left))
+returns-2 c = simp (← (c .before .tag-len .ensures .0), lt-leb _ _ (c .if1 .left))
 
 pub leaf-ok-spec : {M : Type 1} → statement M
 leaf-ok-spec =

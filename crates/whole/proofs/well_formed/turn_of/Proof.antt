@@ -1,6 +1,5 @@
 -- `well_formed::turn_of` meets its contract: each return is a case of `turnOf`.
 use mathlib.Core.Path.{subst}
-use native.Mathlib.Omega.{arith}
 use Rattle.whole.specs.Arrive.{There}
 use Rattle.whole.proofs.Turns.{turn-leaf, turn-inner, turn-broken}
 use borrow.Author.Needs.{needs}
@@ -12,17 +11,10 @@ leaf-visit-requires c κs =
     let s = c .before .before .before .before in
     (subst (There (s .args .f) (s .args .words .now)) (c .before .a .given .1) (s .pre .0), s .pre .1 .0)
 
-add-num : tie.Need-add-num
-add-num c =
+run-len-requires : tie.Need-run-len-requires
+run-len-requires c κs =
     let s = c .before .before .before .before in
-    let h = subst (There (s .args .f) (s .args .words .now)) (c .before .a2 .given .1) (s .pre .0) in
-    omega (arith, h .room)
-
-num-requires : tie.Need-num-requires
-num-requires c κs =
-    let s = c .before .before .before .before in
-    let h = subst (There (s .args .f) (s .args .words .now)) (c .before .a2 .given .1) (s .pre .0) in
-    omega (arith, h .room)
+    subst (There (s .args .f) (s .args .words .now)) (c .before .a2 .given .1) (s .pre .0)
 
 returns : tie.Need-returns
 returns c =
@@ -32,7 +24,7 @@ returns c =
 returns-2 : tie.Need-returns-2
 returns-2 c =
     let s = c .before .before .before .before .before .args in
-    turn-inner (s .f) (s .words .now) (s .reference) (s .depth) (s .s) (c .before .before .a2 .given .1) (c .num .ensures .0)
+    turn-inner (s .f) (s .words .now) (s .reference) (s .depth) (s .s) (c .before .before .a2 .given .1) (c .run-len .ensures .0)
 
 returns-3 : tie.Need-returns-3
 returns-3 c =
@@ -46,8 +38,7 @@ turn-of-spec =
     (λ c. search needs)
     leaf-visit-requires
     (λ c. search needs)
-    add-num
-    num-requires
+    run-len-requires
     (λ c. search needs)
     (λ c. search needs)
     returns
