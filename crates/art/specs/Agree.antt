@@ -32,10 +32,11 @@ module _ {A : Type 0} where
     AgreesRow end-node q = Unit {0}
     AgreesRow (child-node b t r) q = Agrees t (q ++ b ∷ []) × NodeAbove b r × AgreesRow r q
 
-  -- the node is what is shown of a good tree below the path p, and so for a row
+  -- the node is what is shown of a good tree below the path p
   abbrev pub OfTree : Node A → Tag → Type 0
   OfTree node p = (t : Tree A) × Good t × (show p t ≡ node)
 
+  -- and so for a row, of a good row below the path q
   abbrev pub OfRow : NodeRow A → Tag → Type 0
   OfRow row q = (r : Row A) × GoodRow r × (show-row q r ≡ row)
 
@@ -56,6 +57,7 @@ module _ {A : Type 0} where
     ShowsNode (leaf-node n t a) σ = σ (leaf-place n) ≡ leaf-cell t a
     ShowsNode (inner-node k n len st r) σ = (σ (inner-place k n) ≡ inner-cell len st (node-refs r)) × ShowsNodes r σ
 
+    -- and so for each child of a row
     pub ShowsNodes : NodeRow A → Store A → Type 0
     ShowsNodes end-node σ = Unit {0}
     ShowsNodes (child-node b t r) σ = ShowsNode t σ × ShowsNodes r σ
@@ -72,6 +74,7 @@ module _ {A : Type 0} where
     node-contents (leaf-node n t a) = (t, a) ∷ []
     node-contents (inner-node k n len st r) = node-row-contents r
 
+    -- those below each child of a row, one after the other
     pub node-row-contents : NodeRow A → Listing A
     node-row-contents end-node = []
     node-row-contents (child-node b t r) = node-contents t ++ node-row-contents r
@@ -82,6 +85,7 @@ module _ {A : Type 0} where
     node-erase (leaf-node n t a) = one t a
     node-erase (inner-node k n len st r) = branch len st (node-row-erase r)
 
+    -- and so for each child of a row, with its byte
     pub node-row-erase : NodeRow A → Kids A
     node-row-erase end-node = done
     node-row-erase (child-node b t r) = kid b (node-erase t) (node-row-erase r)

@@ -98,6 +98,7 @@ module _ {A : Type 0} where
     leaves (leaf n s a) = n ∷ []
     leaves (inner k n run r) = row-leaves r
 
+    -- those below each child of a row, one after the other
     pub row-leaves : Row A → List ℕ
     row-leaves end = []
     row-leaves (child b t r) = leaves t ++ row-leaves r

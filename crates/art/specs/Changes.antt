@@ -101,6 +101,7 @@ module _ {A : Type 0} where
     grow (leaf n rest v) pl s a = grow-leaf pl s a n rest v (meet s rest)
     grow (inner k n run r) pl s a = grow-inner pl s a k n run r (meet s run) (λ x u. grow-row r pl x u a)
 
+    -- the row with the child for x so grown
     pub grow-row : Row A → Plan → ℕ → Tag → A → Row A
     grow-row end pl x u a = end
     grow-row (child c t r) pl x u a = ite (ℕ-discrete x c) (child c (grow t pl u a) r) (child c t (grow-row r pl x u a))

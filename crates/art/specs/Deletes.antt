@@ -66,12 +66,13 @@ module _ {A : Type 0} where
   prune-inner f hm s k n run r (long x u e) rec = prune-child hm k n run r x (lost-row f r x u) (rec x u)
   prune-inner f hm s k n run r (part c x u y v i j ne) rec = inner k n run r
 
-  -- for a tree that is not lost whole
+  -- the tree with what it holds for s changed or left out, where it is not lost whole
   abbrev mutual
     pub prune : Tree A → (A → Option A) → Home → Tag → Tree A
     prune (leaf n rest a) f hm s = ite (tag-dec s rest) (re-leaf n rest a (f a)) (leaf n rest a)
     prune (inner k n run r) f hm s = prune-inner f hm s k n run r (meet s run) (λ x u. prune-row r f hm x u)
 
+    -- the row with the child for x so changed
     pub prune-row : Row A → (A → Option A) → Home → ℕ → Tag → Row A
     prune-row end f hm x u = end
     prune-row (child c t r) f hm x u = ite (ℕ-discrete x c) (child c (prune t f hm u) r) (child c t (prune-row r f hm x u))

@@ -85,6 +85,7 @@ module _ {A : Type 0} where
     erase p (leaf n s a) = one (p ++ s) a
     erase p (inner k n run r) = branch (length run) (take 8 run) (erase-row (p ++ run) r)
 
+    -- and so for each child of a row, below the path q and its byte
     pub erase-row : Tag → Row A → Kids A
     erase-row q end = done
     erase-row q (child b t r) = kid b (erase (q ++ b ∷ []) t) (erase-row q r)

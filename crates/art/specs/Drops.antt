@@ -59,6 +59,7 @@ module _ {A : Type 0} where
     drops (leaf n rest a) f hm p s = ite (tag-dec s rest) (re-edits n (p ++ rest) (f a)) []
     drops (inner k n run r) f hm p s = drops-inner f hm p s k n run r (meet s run) (λ x u. prune-row r f hm x u) (λ x u. drops-row r f hm (p ++ run) x u)
 
+    -- those of the child for x, if the row has one
     pub drops-row : Row A → (A → Option A) → Home → Tag → ℕ → Tag → Edits A
     drops-row end f hm q x u = []
     drops-row (child c t r) f hm q x u = ite (ℕ-discrete x c) (drops t f hm (q ++ c ∷ []) u) (drops-row r f hm q x u)

@@ -17,28 +17,31 @@ module _ {A : Type 0} where
     height (leaf n s a) = 0
     height (inner k n run r) = suc (row-height r)
 
+    -- the most below any child of a row
     pub row-height : Row A → ℕ
     row-height end = 0
     row-height (child b t r) = max (height t) (row-height r)
 
   -- ── branchings ──
-  -- the inner records of a tree
+  -- how many inner records a tree has
   abbrev mutual
     pub forks : Tree A → ℕ
     forks (leaf n s a) = 0
     forks (inner k n run r) = suc (row-forks r)
 
+    -- how many there are below all children of a row
     pub row-forks : Row A → ℕ
     row-forks end = 0
     row-forks (child b t r) = forks t + row-forks r
 
-  -- the branchings of a drawing
+  -- how many branchings a drawing has
   abbrev mutual
     pub branchings : Drawing A → ℕ
     branchings nothing = 0
     branchings (one t a) = 0
     branchings (branch n st ks) = suc (kids-branchings ks)
 
+    -- how many all children of a branching have
     pub kids-branchings : Kids A → ℕ
     kids-branchings done = 0
     kids-branchings (kid b d ks) = branchings d + kids-branchings ks

@@ -38,6 +38,7 @@ module _ {A : Type 0} where
     lean (leaf n rest v) pl p s a = edits-leaf pl p s a n rest v (meet s rest)
     lean (inner k n run r) pl p s a = lean-inner pl p s a k n run r (meet s run) (λ x u. grow-row r pl x u a) (λ x u. lean-row r pl (p ++ run) x u a)
 
+    -- those of the child for x, if the row has one
     pub lean-row : Row A → Plan → Tag → ℕ → Tag → A → Edits A
     lean-row end pl q x u a = []
     lean-row (child c t r) pl q x u a = ite (ℕ-discrete x c) (lean t pl (q ++ c ∷ []) u a) (lean-row r pl q x u a)
@@ -72,6 +73,7 @@ module _ {A : Type 0} where
     lean-drops (leaf n rest a) f hm p s = ite (tag-dec s rest) (re-edits n (p ++ rest) (f a)) []
     lean-drops (inner k n run r) f hm p s = lean-drops-inner f hm p s k n run r (meet s run) (λ x u. prune-row r f hm x u) (λ x u. lean-drops-row r f hm (p ++ run) x u)
 
+    -- those of the child for x, if the row has one
     pub lean-drops-row : Row A → (A → Option A) → Home → Tag → ℕ → Tag → Edits A
     lean-drops-row end f hm q x u = []
     lean-drops-row (child c t r) f hm q x u = ite (ℕ-discrete x c) (lean-drops t f hm (q ++ c ∷ []) u) (lean-drops-row r f hm q x u)

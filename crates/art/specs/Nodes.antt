@@ -50,6 +50,7 @@ module _ {A : Type 0} where
     show p (leaf n s a) = leaf-node n (p ++ s) a
     show p (inner k n run r) = inner-node k n (length run) (take 8 run) (show-row (p ++ run) r)
 
+    -- and so for each child of a row, below the path q and its byte
     pub show-row : Tag → Row A → NodeRow A
     show-row q end = end-node
     show-row q (child b t r) = child-node b (show (q ++ b ∷ []) t) (show-row q r)
@@ -62,6 +63,7 @@ module _ {A : Type 0} where
     walk (inner-node k n len st r) m d sk s =
         ite (meets-dec sk st (drop d s)) (ite (decLe (length s) (d + len)) none (walk-row r m (getD s (d + len) 0) (suc (d + len)) (sk || ltb 8 len) s)) none
 
+    -- on from the child for b; where there is none nothing is found
     pub walk-row : NodeRow A → Aim → ℕ → ℕ → Bool → Tag → Option A
     walk-row end-node m b d sk s = none
     walk-row (child-node c t r) m b d sk s = ite (ℕ-discrete b c) (walk t m d sk s) (walk-row r m b d sk s)

@@ -31,6 +31,7 @@ module _ {A : Type 0} where
     least (leaf n s a) = some a
     least (inner k n run r) = least-row r
 
+    -- of a row, that of its first child
     pub least-row : Row A → Option A
     least-row end = none
     least-row (child b t r) = least t
@@ -41,6 +42,7 @@ module _ {A : Type 0} where
     greatest (leaf n s a) = some a
     greatest (inner k n run r) = greatest-row r
 
+    -- of a row, that of its last child that has one
     pub greatest-row : Row A → Option A
     greatest-row end = none
     greatest-row (child b t r) = or-else (greatest-row r) (greatest t)
@@ -76,6 +78,7 @@ module _ {A : Type 0} where
     from (leaf n rest a) s = ite (less-dec rest s) none (some a)
     from (inner k n run r) s = from-inner s run (meet s run) (least-row r) (λ x u. from-row r x u)
 
+    -- in a row, by the order of x and each byte
     pub from-row : Row A → ℕ → Tag → Option A
     from-row end x u = none
     from-row (child c t r) x u = from-child x c (order x c) (least t) (from t u) (least-row r) (from-row r x u)

@@ -83,6 +83,7 @@ module _ {A : Type 0} where
     store (leaf n s a) p = write empty (leaf-place n) (leaf-cell (p ++ s) a)
     store (inner k n run r) p = write (store-row r (p ++ run)) (inner-place k n) (inner-cell (length run) (take 8 run) (refs r))
 
+    -- those of each child of a row, below the path q and its byte
     pub store-row : Row A → Tag → Store A
     store-row end q = empty
     store-row (child b t r) q = join (store t (q ++ b ∷ [])) (store-row r q)
@@ -167,6 +168,7 @@ module _ {A : Type 0} where
     edits (leaf n rest v) pl p s a = edits-leaf pl p s a n rest v (meet s rest)
     edits (inner k n run r) pl p s a = edits-inner pl p s a k n run r (meet s run) (λ x u. grow-row r pl x u a) (λ x u. edits-row r pl (p ++ run) x u a)
 
+    -- those of the child for x, if the row has one
     pub edits-row : Row A → Plan → Tag → ℕ → Tag → A → Edits A
     edits-row end pl q x u a = []
     edits-row (child c t r) pl q x u a = ite (ℕ-discrete x c) (edits t pl (q ++ c ∷ []) u a) (edits-row r pl q x u a)

@@ -27,6 +27,7 @@ module _ {A : Type 0} where
     contents (leaf n s a) = (s, a) ∷ []
     contents (inner k n run r) = under run (row-contents r)
 
+    -- those below each child of a row, with its byte first
     pub row-contents : Row A → Listing A
     row-contents end = []
     row-contents (child b t r) = under (b ∷ []) (contents t) ++ row-contents r

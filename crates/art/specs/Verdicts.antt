@@ -47,6 +47,7 @@ module _ {A : Type 0} where
     judge-tree (leaf n rest a) s = verdict (meet s rest)
     judge-tree (inner k n run r) s = judge-inner (meet s run) (λ x u. judge-row r x u)
 
+    -- by the child for x; where there is none the tag is free
     pub judge-row : Row A → ℕ → Tag → Verdict
     judge-row end x u = free
     judge-row (child c t r) x u = ite (ℕ-discrete x c) (judge-tree t u) (judge-row r x u)

@@ -66,6 +66,7 @@ module _ {A : Type 0} where
     spots (leaf n s a) = leaf-place n ∷ []
     spots (inner k n run r) = inner-place k n ∷ row-spots r
 
+    -- those below each child of a row, one after the other
     pub row-spots : Row A → List Place
     row-spots end = []
     row-spots (child b t r) = spots t ++ row-spots r
@@ -76,6 +77,7 @@ module _ {A : Type 0} where
     passed (leaf n s a) z = listed n (marked (leaf-place n) z)
     passed (inner k n run r) z = passed-row r (marked (inner-place k n) z)
 
+    -- and after each child of a row, in order
     pub passed-row : Row A → State → State
     passed-row end z = z
     passed-row (child b t r) z = passed-row r (passed t z)
@@ -113,6 +115,7 @@ module _ (link : ℕ → ℕ → Bool) where
       pass (leaf n s a) z = and-then (mark (leaf-place n) z) (λ y. enlist n y)
       pass (inner k n run r) z = and-then (mark (inner-place k n) z) (λ y. pass-row r y)
 
+      -- and so for each child of a row, in order
       pub pass-row : Row A → State → Option State
       pass-row end z = some z
       pass-row (child b t r) z = and-then (pass t z) (λ y. pass-row r y)

@@ -31,7 +31,7 @@ joinedAt f x (inner-place k n) byte words =
 unfoldable pub merged : Frame → (x child : Place) (byte : ℕ) → List ℕ → List ℕ
 merged f x child byte words = clearAt f x (joinedAt f x child byte words)
 
--- a record moved into a smaller one, without a child
+-- a record moved into another without the child for a byte, and freed
 unfoldable pub shrunk : Frame → (old new : Place) (byte : ℕ) → List ℕ → List ℕ
 shrunk f old new byte words = clearAt f old (dropAt f old new byte words)
 
@@ -43,6 +43,7 @@ pruned f (Shrink upper old new byte) words = linkUp f upper new (shrunk f (place
 pruned f (Merge upper ref child byte) words = linkUp f upper child (merged f (placeAt ref) (placeAt child) byte words)
 
 -- ── all of it: the tree, the list and the leaf, the tag count ──
+-- leaf n cut from the tree, its neighbours linked and its record freed, and one tag less counted
 unfoldable pub goneWords : Frame → Cut → ℕ → Gap → List ℕ → List ℕ
 goneWords f cut n gap words = setTrailer 14 (countWord words - 1) (leafOut f n (gap .previous) (gap .next) (pruned f cut words))
 
@@ -52,18 +53,19 @@ abbrev pub JoinReady : Frame → List ℕ → Place → Type 0
 JoinReady f words (leaf-place n) = Unit {0}
 JoinReady f words (inner-place k n) = InnerHere f words (inner-place k n)
 
--- for a merge; the record above has a child for its byte where it is written
+-- for a merge: the record obeys its rule, the child is a leaf or obeys its own, its byte is below 256, and the record above has a child for its byte where it is written
 pub record MergeReady (f : Frame) (words : List ℕ) (upper : Up) (ref child byte : ℕ) : Type 0 where
   pub here : InnerHere f words (placeAt ref)
   pub child-ready : JoinReady f words (placeAt child)
   pub low : byte < 256
   pub above : UpThere f (merged f (placeAt ref) (placeAt child) byte words) upper
 
--- for a move into a smaller record
+-- for a move: the record has a child for the byte, the other one room for the rest, and the record above is as for a merge
 pub record ShrinkReady (f : Frame) (words : List ℕ) (upper : Up) (old new byte : ℕ) : Type 0 where
   pub drops : Drops f words (placeAt old) (placeAt new) byte
   pub above : UpThere f (shrunk f (placeAt old) (placeAt new) byte words) upper
 
+-- by the cut: a record that stays has a child for the byte, and a root that goes needs nothing
 abbrev pub CutReady : Frame → List ℕ → Cut → Type 0
 CutReady f words Root = Unit {0}
 CutReady f words (Stay ref byte) = HasChild f words (placeAt ref) byte

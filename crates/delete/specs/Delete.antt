@@ -24,6 +24,7 @@ pub record Out : Type 0 where
   pub keys : List ℕ
   pub scratch : List ℕ
 
+-- this answer, with these slices
 abbrev pub out : Deleted → (words keys scratch : List ℕ) → Out
 out a w k s = record { answer = a; words = w; keys = k; scratch = s }
 
@@ -33,7 +34,7 @@ planned f words keys scratch (Take cut n gap) = out (deleted.Gone (totalOf (reco
 planned f words keys scratch Missing = out deleted.Missing words keys scratch
 planned f words keys scratch Broken = out deleted.Damaged words keys scratch
 
--- what must hold for it
+-- what must hold for it: a leaf that is taken out has what its writes need, a refusal asks nothing
 abbrev pub PlanReady : Frame → List ℕ → Plan → Type 0
 PlanReady f words (Take cut n gap) = TakeReady f words cut n gap
 PlanReady f words Missing = Unit {0}

@@ -35,7 +35,7 @@ otherThan byte Nothing last = Nothing
 unfoldable pub otherEntry : ℕ → List (ℕ × ℕ) → Entry
 otherEntry byte row = otherThan byte (entryAt 0 row) (lastEntry row)
 
--- one child left merges; a record that obeys its rule has two children, so there is one
+-- one child left merges; a record that obeys its rule has two children or more, so there is one
 abbrev pub mergeCut : Up → ℕ → ℕ → Entry → Cut
 mergeCut upper ref byte (Child b r) = Merge upper ref r b
 mergeCut upper ref byte Nothing = Stay ref byte

@@ -19,7 +19,7 @@ use Rattle.art.specs.Refs.{cut-ref}
 use Rattle.art.specs.Points.{Up, top, via, Point, holds, clashes, into, fork, broken, point, cell-refs}
 use Rattle.states.specs.Lowest.{Lowest}
 
--- with so many children left the record of a kind and number is of these afterwards
+-- the record of a kind and number, with so many children left, has the kind and number of to afterwards
 pub data Goes (f : Frame) (σ : Store Held) (kind number left : ℕ) (to : ℕ × ℕ) : Type 0 where
   -- above its mark it stays where it is
   stays : to ≡ (kind, number) → markOf kind < left → Goes f σ kind number left to
@@ -28,11 +28,12 @@ pub data Goes (f : Frame) (σ : Store Held) (kind number left : ℕ) (to : ℕ �
   -- but stays where it is if every record of that kind is in use
   crowded : to ≡ (kind, number) → left ≤ markOf kind → ((n : ℕ) → inPool f (inner-place (kind - 1) n) ≡ true → Used (σ (inner-place (kind - 1) n))) → Goes f σ kind number left to
 
--- the record above a leaf, where it keeps two children or more
+-- the record above a leaf goes so, where it keeps two children or more
 abbrev pub Settles : Frame → Store Held → Home → Up → Type 0
 Settles f σ hm top = Unit {0}
 Settles f σ hm (via k n b) = let left : ℕ = length (cut-ref b (cell-refs (σ (inner-place k n)))) in 2 ≤ left → Goes f σ k n left (hm k n left)
 
+-- by the point: a tag that is not held has no leaf to leave out
 abbrev pub SettlesAt : Frame → Store Held → Home → Point → Type 0
 SettlesAt f σ hm (holds upper up n) = Settles f σ hm up
 SettlesAt f σ hm clashes = Unit {0}

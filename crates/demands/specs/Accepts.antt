@@ -14,10 +14,12 @@ pub data Edit : Type 0 where
   insert : (tag : Tag) (total : ℕ) → Edit
   delete : (tag : Tag) → Edit
 
+-- the tag that it is given
 abbrev pub tagOf : Edit → Tag
 tagOf (insert tag total) = tag
 tagOf (delete tag) = tag
 
+-- it is one of the public calls
 abbrev pub callOf : Edit → Call
 callOf (insert tag total) = calls.insert tag total
 callOf (delete tag) = calls.delete tag
@@ -36,5 +38,6 @@ effect (insert tag total) none = puts tag total
 effect (insert tag total) (some old) = alters tag total
 effect (delete tag) o = leaves tag
 
+-- the listing after an accepted one: its effect, by what was held for the tag
 abbrev pub done : Edit → Listing ℕ → Listing ℕ
 done e l = told l (effect e (lookup (tagOf e) l))

@@ -71,6 +71,7 @@ pub record Outcome : Type 0 where
   pub answer : Answer
   pub slices : Slices
 
+-- this answer, with these three slices
 abbrev pub outcome : Answer → (words keys scratch : List ℕ) → Outcome
 outcome a w k s = record { answer = a; slices = record { words = w; keys = k; scratch = s } }
 
@@ -79,6 +80,7 @@ abbrev pub read : Answer → Slices → Outcome
 read a s = record { answer = a; slices = s }
 
 -- ── what the contracts promise, each the equation of its `ensures` ──
+-- the answer and the slices that the call may change solve its equation; the other slices are as they were lent
 abbrev pub Promise : Call → Slices → Outcome → Type 0
 Promise (start c) s o = (r : Started) × (o ≡ outcome (started r) (o .slices .words) (o .slices .keys) (s .scratch))
     × (start-call.out r (o .slices .words) (o .slices .keys) ≡ start-call.startOf (s .words) (s .keys) c)
@@ -99,6 +101,7 @@ Promise (delete t) s o = (r : Deleted) × (o ≡ outcome (deleted r) (o .slices 
     × (delete-call.out r (o .slices .words) (o .slices .keys) (o .slices .scratch) ≡ delete-call.deleteOf (s .words) (s .keys) (s .scratch) t)
 
 -- ── the one outcome ──
+-- what each equation gives; slices that the call does not change stay as they were lent
 abbrev pub run : Call → Slices → Outcome
 run (start c) s = let o = start-call.startOf (s .words) (s .keys) c in outcome (started (o .answer)) (o .words) (o .keys) (s .scratch)
 run (search t) s = read (found (searchOf (s .words) (s .keys) t)) s

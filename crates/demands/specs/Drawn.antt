@@ -19,15 +19,17 @@ abbrev mutual
   plain (leaf n s a) = leaf n s (a .total)
   plain (inner k n run r) = inner k n run (plain-row r)
 
+  -- and so for each child of a row
   pub plain-row : Row Held → Row ℕ
   plain-row end = end
   plain-row (child b t r) = child b (plain t) (plain-row r)
 
+-- and so where there is a tree
 abbrev pub plain-of : Option (Tree Held) → Option (Tree ℕ)
 plain-of none = none
 plain-of (some t) = some (plain t)
 
--- its drawing
+-- what it draws; with no tree, nothing
 abbrev pub drawing : Option (Tree Held) → Drawing ℕ
 drawing d = drawn (plain-of d)
 
@@ -37,8 +39,10 @@ abbrev pub usedBelow : Frame → List ℕ → ℕ → ℕ → ℕ
 usedBelow f words k zero = 0
 usedBelow f words k (suc n) = usedBelow f words k n + choose {A = ℕ} (nonzero (wordZero f words (inner-place k n))) 1 0
 
+-- of a kind, in all its pool
 abbrev pub usedOf : Frame → List ℕ → ℕ → ℕ
 usedOf f words k = usedBelow f words k (getD (f .caps) k 0)
 
+-- of all four kinds, in the frame that the trailer gives
 abbrev pub usedInner : List ℕ → ℕ
 usedInner words = let f = frame words in usedOf f words 1 + usedOf f words 2 + usedOf f words 3 + usedOf f words 4

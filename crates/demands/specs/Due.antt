@@ -51,7 +51,7 @@ pub record Unsound (s : Slices) : Type 0 where
   pub room : placesIn (frame (s .words)) ≤ length (s .scratch)
   pub not-sound : ¬ Sound (s .words) (s .keys)
 
--- the check finds nothing wrong
+-- scratch is long enough, and the block is sound
 pub record Passed (s : Slices) : Type 0 where
   pub room : placesIn (frame (s .words)) ≤ length (s .scratch)
   pub sound : Sound (s .words) (s .keys)
@@ -67,10 +67,11 @@ pub record InUse (s : Slices) (n : ℕ) : Type 0 where
   pub pool : inPool (frame (s .words)) (leaf-place n) ≡ true
   pub used : usedAs (recordAt (frame (s .words)) (s .words) (leaf-place n)) ≢ 0
 
--- it obeys its rule; its next; the leaf that its next names
+-- leaf n obeys its own rule
 abbrev pub obeys : Slices → ℕ → Bool
 obeys s n = ruleAt (frame (s .words)) (s .words) (s .keys) (leaf-place n)
 
+-- its reference to the leaf after it
 abbrev pub nextRef : Slices → ℕ → ℕ
 nextRef s n = nextLeaf (recordAt (frame (s .words)) (s .words) (leaf-place n))
 
@@ -79,11 +80,14 @@ abbrev pub namesLeaf : Frame → List ℕ → Place → Bool
 namesLeaf f words (leaf-place n) = inPool f (leaf-place n) && eqb (usedAs (recordAt f words (leaf-place n))) 1
 namesLeaf f words (inner-place k n) = false
 
+-- the reference names such a leaf
 abbrev pub nextNamed : Slices → ℕ → Bool
 nextNamed s ref = namesLeaf (frame (s .words)) (s .words) (placeAt ref)
 
 -- ── the table ──
+-- the number that is due for a call on what is lent to it
 pub data Due : Call → Slices → ℕ → Type 0 where
+  -- start: 8 where a capacity or a length does not fit, else 0
   start-refused : {c : Caps} {s : Slices} → startFits (formOf 1) c (length (s .words)) (length (s .keys)) ≡ false → Due (start c) s 8
   start-done : {c : Caps} {s : Slices} → startFits (formOf 1) c (length (s .words)) (length (s .keys)) ≡ true → Due (start c) s 0
   -- search, prefix search, minimum, maximum: frame 6, then as the walk meets it; on a sound block 1 or 0 by the list

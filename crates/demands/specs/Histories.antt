@@ -30,13 +30,15 @@ pub record Turn : Type 0 where
   pub call : Call
   pub scratch : List ℕ
 
+-- the block's words and key bytes, and that scratch
 abbrev pub lent : Block → Turn → Slices
 lent b t = record { words = b .words; keys = b .keys; scratch = t .scratch }
 
--- one call on a block: its answer, and the block afterwards
+-- one call on a block: its answer
 abbrev pub answered : Block → Turn → Answer
 answered b t = run (t .call) (lent b t) .answer
 
+-- and the block afterwards
 abbrev pub next : Block → Turn → Block
 next b t = let s = run (t .call) (lent b t) .slices in record { words = s .words; keys = s .keys }
 
@@ -46,7 +48,7 @@ after-all b [] = b
 after-all b (t ∷ ts) = after-all (next b t) ts
 
 -- ── what the accepted calls define ──
--- what an accepted call changes
+-- what a call makes of the tags held: a fresh start, a tag put in, another total for one, a tag left out, or nothing
 pub data Change : Type 0 where
   fresh : Change
   puts : (tag : List ℕ) (total : ℕ) → Change
@@ -54,11 +56,12 @@ pub data Change : Type 0 where
   leaves : (tag : List ℕ) → Change
   nothing : Change
 
--- by the answer of start, of insert and of delete: a refusal changes nothing
+-- by the answer of start: once done nothing is held; a refusal changes nothing
 abbrev pub startChange : Started → Change
 startChange started.Done = fresh
 startChange started.Refused = nothing
 
+-- of insert: a new tag is put in, a held one gets the new total, a refusal changes nothing
 abbrev pub insertChange : List ℕ → ℕ → Inserted → Change
 insertChange tag total inserted.New = puts tag total
 insertChange tag total (inserted.Over old) = alters tag total
@@ -69,6 +72,7 @@ insertChange tag total inserted.NoRecord = nothing
 insertChange tag total inserted.Damaged = nothing
 insertChange tag total inserted.ShortScratch = nothing
 
+-- of delete: the tag is left out, a refusal changes nothing
 abbrev pub deleteChange : List ℕ → Deleted → Change
 deleteChange tag (deleted.Gone total) = leaves tag
 deleteChange tag deleted.Missing = nothing
@@ -113,6 +117,7 @@ pub record Tally : Type 0 where
   pub inserts : ℕ
   pub deletes : ℕ
 
+-- so many of each
 abbrev pub tally : (inserts deletes : ℕ) → Tally
 tally i d = record { inserts = i; deletes = d }
 
@@ -148,6 +153,7 @@ CallBytes (calls.first-at-or-after t) = Bytes t
 CallBytes (calls.insert t total) = Bytes t
 CallBytes (calls.delete t) = Bytes t
 
+-- and so in every call of a history
 abbrev pub AllBytes : List Turn → Type 0
 AllBytes [] = Unit {0}
 AllBytes (t ∷ ts) = CallBytes (t .call) × AllBytes ts

@@ -15,7 +15,7 @@ use Rattle.demands.specs.Calls.{Call, start, search, prefix-search, mini
 abbrev pub enough : Slices → Bool
 enough s = frameFits (s .words) (s .keys) && leb (placesIn (frame (s .words))) (length (s .scratch))
 
--- insert tests its tag's length before
+-- the call takes scratch, and gets past its test for 7; insert tests its tag's length before
 abbrev pub past : Call → Slices → Bool
 past (start c) s = false
 past (search t) s = false

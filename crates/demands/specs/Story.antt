@@ -24,9 +24,9 @@ pub record Story (b : Block) (l : Listing ℕ) (n : Tally) : Type 0 where
   pub reads : Reads (b .words) (b .keys) (held (sound .tree))
   -- and the answer of any call, made next with scratch enough, is the list's
   pub listed : (t : Turn) → CallBytes (t .call) → Suffices (t .call) (lent b t) → Listed sound (t .call) (answered b t)
-  -- its tree is the one that these tags alone draw
+  -- its tree draws what these tags alone draw
   pub draws : drawing (sound .tree) ≡ draw l
-  -- with an inner record in use for each branching of the drawing, and no other
+  -- with as many inner records in use as the drawing has branchings
   pub inner : usedInner (b .words) ≡ branchings (draw l)
   -- the count word and the accepted deletes since start are together the accepted new inserts
   pub count : countWord (b .words) + n .deletes ≡ n .inserts

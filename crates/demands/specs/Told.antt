@@ -18,9 +18,11 @@ pub record Told : Type 0 where
   pub total : ℕ
   pub tag : List ℕ
 
+-- these five values
 abbrev pub told : (number leaf length total : ℕ) → List ℕ → Told
 told n l m t b = record { number = n; leaf = l; length = m; total = t; tag = b }
 
+-- by the kind of answer: a tag comes with its length, and with 0 for the number that it has not
 abbrev pub toldBy : Answer → Told
 toldBy (started a) = told (startNumber a) 0 0 0 []
 toldBy (found a) = told (foundNumber a) (foundLeaf a) 0 (foundTotal a) []

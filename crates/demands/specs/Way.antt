@@ -35,10 +35,11 @@ pub record Stands (f : Frame) (words keys : List ℕ) (x : Place) : Type 0 where
   pub rule : ruleAt f words keys x ≡ true
 
 -- ── search and prefix search ──
--- the tag against the prefix of an inner record; the child for a byte of the tag
+-- the tag from this depth on against the prefix of an inner record
 abbrev pub matched : Frame → List ℕ → Tag → (k n depth : ℕ) → PrefixMatchBehavior → PrefixMatch
 matched f words t k n depth b = matchOf (prefixAt (f .form) (recordAt f words (inner-place k n))) t depth b
 
+-- the reference of that record's child for byte d of the tag, 0 where there is none
 abbrev pub childFor : Frame → List ℕ → Tag → (k n d : ℕ) → ℕ
 childFor f words t k n d = childAt (f .form) k (recordAt f words (inner-place k n)) (getD t d 0)
 

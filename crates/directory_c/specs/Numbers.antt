@@ -14,6 +14,7 @@ use Rattle.directory_c.specs.declared.DirectoryLeaf.{DirectoryLeaf}
 use Rattle.directory_c.specs.declared.DirectoryPart.{DirectoryPart}
 
 -- ── what is lent ──
+-- these three slices
 abbrev pub lent : (words keys scratch : List ℕ) → Slices
 lent w k s = record { words = w; keys = k; scratch = s }
 
@@ -21,27 +22,32 @@ lent w k s = record { words = w; keys = k; scratch = s }
 abbrev pub lentTwo : (words keys : List ℕ) → Slices
 lentTwo w k = lent w k []
 
+-- the capacities of the five pools in order, kinds 1 to 4 and leaves
 abbrev pub capsOf : (c1 c2 c3 c4 c5 : ℕ) → Caps
 capsOf c1 c2 c3 c4 c5 = record { c1 = c1; c2 = c2; c3 = c3; c4 = c4; c5 = c5 }
 
 -- ── what is given back ──
--- the part that a function gives back of what an answer tells
+-- of what an answer tells, start and check give the number alone
 abbrev pub numberIn : Answer → ℕ
 numberIn a = toldBy a .number
 
+-- the calls that find a leaf give number, leaf and total
 abbrev pub foundIn : Answer → DirectoryFound
 foundIn a = record { number = toldBy a .number; leaf = toldBy a .leaf; total = toldBy a .total }
 
+-- leaf facts gives number, length and total
 abbrev pub leafIn : Answer → DirectoryLeaf
 leafIn a = record { number = toldBy a .number; length = toldBy a .length; total = toldBy a .total }
 
+-- this number and this total
 abbrev pub changed : (number total : ℕ) → DirectoryChanged
 changed n t = record { number = n; total = t }
 
+-- insert and delete give these two
 abbrev pub changedIn : Answer → DirectoryChanged
 changedIn a = changed (toldBy a .number) (toldBy a .total)
 
--- where a leaf's key bytes begin
+-- where a leaf's key bytes begin; 0 where the frame does not fit
 abbrev pub tagStart : List ℕ → List ℕ → ℕ → ℕ
 tagStart words keys n = choose (frameFits words keys) (n * frame words .form .limit) 0
 
@@ -50,10 +56,12 @@ unfoldable pub partOf : (words keys : List ℕ) (n : ℕ) → List ℕ → Direc
 partOf words keys n b = choose (eqb (length b) 0) (record { start = 0; length = 0 }) (record { start = tagStart words keys n; length = length b })
 
 -- ── what a function gives back, and the slices as it leaves them ──
+-- the two together, for any type of what is given back
 pub record Seen (R : Type 0) : Type 0 where
   pub given : R
   pub slices : Slices
 
+-- this, with these three slices
 abbrev pub seen : {R : Type 0} → R → (words keys scratch : List ℕ) → Seen R
 seen r w k s = record { given = r; slices = lent w k s }
 

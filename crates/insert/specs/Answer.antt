@@ -3,6 +3,7 @@ use Prim.Native.Nat.{ℕ}
 use Rattle.insert.specs.declared.answer.Inserted.{Inserted}
 use Rattle.insert.specs.declared.answer.Inserted.the-variants.{New, Over, TooLong, Clash, NoLeaf, NoRecord, Damaged, ShortScratch}
 
+-- 0 done, for a new tag and a held one; 2 too long, 3 a clash, 4 no leaf, 5 no record, 6 damaged block, 7 scratch too short
 abbrev pub numberOf : Inserted → ℕ
 numberOf New = 0
 numberOf (Over total) = 0

@@ -32,7 +32,7 @@ cutAt f (leaf-place n) c t d words = words
 cutAt f (inner-place k n) c t d words =
     prefixedAt f (inner-place k n) (splitOf (prefixAt (f .form) (recordAt f words (inner-place k n))) (c + 1) t d) words
 
--- a full record moved, with its new child, and freed
+-- a full record moved to another, which takes the new child; the old one is freed
 unfoldable pub grown : Frame → (old new : Place) (byte leaf : ℕ) → List ℕ → List ℕ
 grown f old new byte leaf words = clearAt f old (changeAt f new byte (change.Add leaf) (moveAt f old new words))
 
@@ -41,7 +41,7 @@ unfoldable pub forked : Frame → (below new : ℕ) (tag t : List ℕ) (d c leaf
 forked f below new tag t d c leaf words =
     branchAt f (placeAt new) (prefixOf (between tag d (d + c))) (getD tag (d + c) 0) leaf (getD t (d + c) 0) below (cutAt f (placeAt below) c t d words)
 
--- leaf is the reference to the new leaf
+-- the tree with the new leaf, by the site; leaf is the reference to it
 unfoldable pub hung : Frame → (keys tag : List ℕ) → Site → ℕ → List ℕ → List ℕ
 hung f keys tag Root leaf words = setTrailer 11 leaf words
 hung f keys tag (Add ref byte) leaf words = changeAt f (placeAt ref) byte (change.Add leaf) words
@@ -49,22 +49,24 @@ hung f keys tag (Grow up old new byte) leaf words = linkUp f up new (grown f (pl
 hung f keys tag (Fork up below new witness d c) leaf words = linkUp f up new (forked f below new tag (tagAt f words keys witness) d c leaf words)
 
 -- ── all of it: the tree, the list and the leaf, the tag count ──
+-- leaf n hung into the tree, written and linked between its neighbours, and one tag more counted
 unfoldable pub newWords : Frame → (keys tag : List ℕ) (total : ℕ) → Site → ℕ → Gap → List ℕ → List ℕ
 newWords f keys tag total site n gap words =
     setTrailer 14 (countWord words + 1) (leafIn f n (length tag) (gap .previous) (gap .next) total (hung f keys tag site (leaf-ref n) words))
 
 -- ── what must hold ──
--- a leaf, or a record whose prefix is longer than what agrees of it and stands in the tag t
+-- a record that obeys its rule, with a prefix longer than the c bytes that agree of it; the tag t is long enough for all of it from depth d on
 pub record CutReady (f : Frame) (words : List ℕ) (k n c : ℕ) (t : List ℕ) (d : ℕ) : Type 0 where
   pub here : InnerHere f words (inner-place k n)
   pub inside : c + 1 ≤ prefixAt (f .form) (recordAt f words (inner-place k n)) .full .0
   pub whole : d + prefixAt (f .form) (recordAt f words (inner-place k n)) .full .0 ≤ length t
 
+-- such a record, or a leaf
 abbrev pub CutOrLeaf : Frame → List ℕ → Place → (c : ℕ) (t : List ℕ) (d : ℕ) → Type 0
 CutOrLeaf f words (leaf-place n) c t d = Unit {0}
 CutOrLeaf f words (inner-place k n) c t d = CutReady f words k n c t d
 
--- a new branching: the witness obeys its rule, the tag and its tag part within both, and the new place is that of an inner record
+-- a new branching: the witness obeys its rule, the tag and its tag part within both, what is below can be cut, the new place is an inner record's, the record above has its child
 pub record ForkReady (f : Frame) (words keys tag : List ℕ) (up : Up) (below new witness d c leaf : ℕ) : Type 0 where
   pub seen : LeafSeen f words keys witness
   pub inside : d + c < length tag
@@ -75,13 +77,13 @@ pub record ForkReady (f : Frame) (words keys tag : List ℕ) (up : Up) (below ne
   pub to : InnerPlace f (placeAt new)
   pub above : UpThere f (forked f below new tag (tagAt f words keys witness) d c leaf words) up
 
--- a move into a record with room
+-- a move into a record with room for one child more; the record above has its child
 pub record GrowReady (f : Frame) (words : List ℕ) (up : Up) (old new byte leaf : ℕ) : Type 0 where
   pub moves : Moves f words (placeAt old) (placeAt new)
   pub room : Roomy f (moveAt f (placeAt old) (placeAt new) words) (placeAt new)
   pub above : UpThere f (grown f (placeAt old) (placeAt new) byte leaf words) up
 
--- by the site
+-- by the site: a record that takes the child in place has room for it, and a new root needs nothing
 abbrev pub SiteReady : Frame → (words keys tag : List ℕ) → Site → ℕ → Type 0
 SiteReady f words keys tag Root leaf = Unit {0}
 SiteReady f words keys tag (Add ref byte) leaf = Roomy f words (placeAt ref)

@@ -30,6 +30,7 @@ pub record Out : Type 0 where
   pub keys : List ℕ
   pub scratch : List ℕ
 
+-- this answer, with these slices
 abbrev pub out : Inserted → (words keys scratch : List ℕ) → Out
 out a w k s = record { answer = a; words = w; keys = k; scratch = s }
 
@@ -43,7 +44,7 @@ planned f words keys scratch tag total NoLeaf = out inserted.NoLeaf words keys s
 planned f words keys scratch tag total NoRecord = out inserted.NoRecord words keys scratch
 planned f words keys scratch tag total Broken = out inserted.Damaged words keys scratch
 
--- what must hold for it
+-- what must hold for it: an overwritten leaf is one of the pool, a new one has what its writes need, a refusal asks nothing
 abbrev pub PlanReady : Frame → (words keys tag : List ℕ) → Plan → Type 0
 PlanReady f words keys tag (Over leaf) = inPool f (leaf-place (leaf / 8)) ≡ true
 PlanReady f words keys tag (New site n gap) = NewReady f words keys tag site n gap

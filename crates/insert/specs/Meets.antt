@@ -19,7 +19,7 @@ use Rattle.insert.specs.declared.answer.Inserted.the-variants as inserte
 use Rattle.insert.specs.Room.{LeavesFull, Lacking}
 use Rattle.insert.specs.Insert.{Out}
 
--- what a held tag has afterwards
+-- what a held tag has afterwards: its leaf's number, and the new total
 abbrev pub newTotal : ℕ → Held → Held
 newTotal total h = record { number = h .number; total = total }
 
@@ -39,12 +39,13 @@ pub record PutsIn {words keys : List ℕ} (s : Sound words keys) (tag : Tag) (to
   pub lowest : Lowest (frame words) (store-of (s .tree)) leaf-place leaf
   pub holds : held (sound .tree) ≡ put tag (record { number = leaf; total = total }) (held (s .tree))
 
--- nothing is changed
+-- this answer, and no word and no key byte is changed
 pub record Refuses (words keys : List ℕ) (r : Inserted) (o : Out) : Type 0 where
   pub answers : o .answer ≡ r
   pub words-kept : o .words ≡ words
   pub keys-kept : o .keys ≡ keys
 
+-- a held tag is overwritten; a clash is refused; so is a new tag where every leaf is in use, then where a record lacks; else it is put in
 pub data Inserts {words keys : List ℕ} (s : Sound words keys) (tag : Tag) (total : ℕ) (o : Out) : Type 0 where
   overwrites : judge tag (held (s .tree)) ≡ known → Overwrites s tag total o → Inserts s tag total o
   clashes : judge tag (held (s .tree)) ≡ clash → Refuses words keys inserted.Clash o → Inserts s tag total o

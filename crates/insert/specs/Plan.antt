@@ -30,31 +30,35 @@ use Rattle.insert.specs.declared.plan.Plan.{Plan}
 use Rattle.insert.specs.declared.plan.Plan.the-variants.{Over, New, Clash, NoLeaf, NoRecord, Broken}
 
 -- ── the record that takes the new leaf ──
--- a full record grows into the smallest larger kind with a free record
+-- a full record grows into the free record that was found, if one was
 abbrev pub growChoice : Up → ℕ → ℕ → Free → Choice
 growChoice up ref byte (free.At k n) = At (Grow up ref (refOf (inner-place k n)) byte)
 growChoice up ref byte free.Nowhere = Nowhere
 
--- a missing child is added in place where the record has room
+-- a missing child is added in place where the record has room; a full one grows into the smallest larger kind with a free record
 unfoldable pub intoChoice : Frame → List ℕ → Up → ℕ → ℕ → Choice
 intoChoice f words up ref byte =
     choose (ltb (childCount (recordAt f words (placeAt ref))) (childrenOf (ref % 8))) (At (Add ref byte)) (growChoice up ref byte (freeKind f words (suc (ref % 8))))
 
--- a new branching is made in the smallest kind that has a free record
+-- a new branching is made in the free record that was found, if one was
 abbrev pub forkWith : Up → (ref leaf d c : ℕ) → Free → Choice
 forkWith up ref leaf d c (free.At k n) = At (Fork up ref (refOf (inner-place k n)) leaf d c)
 forkWith up ref leaf d c free.Nowhere = Nowhere
 
+-- that is the lowest of the smallest kind that has one
 unfoldable pub forkChoice : Frame → List ℕ → Up → (ref leaf d c : ℕ) → Choice
 forkChoice f words up ref leaf d c = forkWith up ref leaf d c (freeKind f words 1)
 
 -- ── the place in the list: before the first leaf whose tag is not below ──
+-- before leaf n, and after the one that was before it
 abbrev pub gapAt : Frame → List ℕ → ℕ → Gap
 gapAt f words n = record { previous = previousLeaf (recordAt f words (leaf-place n)); next = leaf-ref n }
 
+-- with no such leaf, after the last
 abbrev pub gapEnd : List ℕ → Gap
 gapEnd words = record { previous = lastWord words; next = 0 }
 
+-- before the leaf that is found along the list, or at its end; a damaged list is a broken plan
 abbrev pub newPlan : Frame → List ℕ → Site → ℕ → After → Plan
 newPlan f words site leaf (after.Leaf n total) = New site leaf (gapAt f words n)
 newPlan f words site leaf after.Missing = New site leaf (gapEnd words)
@@ -73,6 +77,7 @@ leafPlan f words keys tag c =
     choose (ltb (lowestFree f words 5) (getD (f .caps) 5 0)) (sitePlan f words keys tag (lowestFree f words 5) c) NoLeaf
 
 -- ── by the point: held, 3, or new ──
+-- a held tag is overwritten, a clash is 3, and a new tag takes a leaf, in the record at its point or in a new branching there
 unfoldable pub pointPlan : Frame → (words keys tag : List ℕ) → Point → Plan
 pointPlan f words keys tag (point.Holds upper up leaf) = Over leaf
 pointPlan f words keys tag point.Clash = Clash

@@ -23,13 +23,15 @@ leaf-at p n total = 1 ∷ 1 ∷ p ∷ n ∷ total ∷ 0 ∷ []
 abbrev pub trailer : (d1 d2 d5 c1 c2 c5 root first last count size : ℕ) → List ℕ
 trailer d1 d2 d5 c1 c2 c5 root first last count size = 1 ∷ d1 ∷ d2 ∷ d5 ∷ d5 ∷ d5 ∷ c1 ∷ c2 ∷ 0 ∷ 0 ∷ c5 ∷ root ∷ first ∷ last ∷ count ∷ size ∷ []
 
--- the key bytes of a tag of one byte, and of a free leaf
+-- the key bytes of a tag of one byte
 abbrev pub key : ℕ → List ℕ
 key b = b ∷ replicate 63 0
 
+-- those of a free leaf
 abbrev pub no-key : List ℕ
 no-key = replicate 64 0
 
+-- these words and key bytes
 abbrev pub block : (words keys : List ℕ) → Block
 block w k = record { words = w; keys = k }
 
@@ -62,17 +64,19 @@ swapped =
 abbrev pub broken : Block
 broken = block broken-words two-keys
 
--- its first leaf has a length of 65, or a next reference that names no leaf
+-- its first leaf has a length of 65
 abbrev pub overlong : Block
 overlong = block (set two-words 20 65) two-keys
 
+-- its first leaf has a next reference that names no leaf
 abbrev pub astray : Block
 astray = block (set two-words 22 21) two-keys
 
--- its root reference names no record of the pool, or its record is its own child for A
+-- its root reference names no record of the pool
 abbrev pub afar : Block
 afar = block (set two-words 42 9) two-keys
 
+-- its record is its own child for A
 abbrev pub ring : Block
 ring = block (set two-words 15 1) two-keys
 
@@ -140,9 +144,11 @@ cramped-less =
     (key 65 ++ key 66 ++ key 67 ++ key 68 ++ no-key)
 
 -- ── two records of kind 1, and three leaves: tags with a run of ten bytes ──
+-- the last eight bytes of the run
 abbrev pub CtoJ : List ℕ
 CtoJ = 67 ∷ 68 ∷ 69 ∷ 70 ∷ 71 ∷ 72 ∷ 73 ∷ 74 ∷ []
 
+-- all ten
 abbrev pub AtoJ : List ℕ
 AtoJ = 65 ∷ 66 ∷ CtoJ
 
@@ -173,32 +179,39 @@ caps n = record { c1 = 1; c2 = 0; c3 = 0; c4 = 0; c5 = n }
 abbrev pub lend : Block → ℕ → Slices
 lend b n = record { words = b .words; keys = b .keys; scratch = replicate n 1 }
 
--- tags of one byte, and one of two
+-- a tag of one byte, the lowest here
 abbrev pub A : List ℕ
 A = 65 ∷ []
 
+-- one that parts from it at the first byte
 abbrev pub B : List ℕ
 B = 66 ∷ []
 
+-- a third, for a record with room
 abbrev pub C : List ℕ
 C = 67 ∷ []
 
+-- a fourth, with which a record of kind 1 is full
 abbrev pub D : List ℕ
 D = 68 ∷ []
 
+-- a fifth, with which it grows
 abbrev pub E : List ℕ
 E = 69 ∷ []
 
+-- a tag that A begins
 abbrev pub AB : List ℕ
 AB = 65 ∷ 66 ∷ []
 
--- the long ones, and AX
+-- the first of the two long ones
 abbrev pub J1 : List ℕ
 J1 = AtoJ ++ 49 ∷ []
 
+-- the second, which parts from it at the last byte
 abbrev pub J2 : List ℕ
 J2 = AtoJ ++ 50 ∷ []
 
+-- a tag that parts from their run after A
 abbrev pub AX : List ℕ
 AX = 65 ∷ 88 ∷ []
 
@@ -210,26 +223,29 @@ holding n t = record { number = n; total = t }
 abbrev pub entry : Tag → (number total : ℕ) → Tag × Held
 entry tag n t = (tag, holding n t)
 
--- the trees of A and B, and of A, B and C, below a record of kind 1
+-- the tree of A and B, below a record of kind 1
 abbrev pub pair : Tree Held
 pair = inner 1 0 [] (child 65 (leaf 0 [] (holding 0 7)) (child 66 (leaf 1 [] (holding 1 8)) end))
 
+-- the same with C
 abbrev pub triple : Tree Held
 triple = inner 1 0 [] (child 65 (leaf 0 [] (holding 0 7)) (child 66 (leaf 1 [] (holding 1 8)) (child 67 (leaf 2 [] (holding 2 9)) end)))
 
--- the trees of A to D below a record of kind 1, and of A to E below one of kind 2
+-- the tree of A to D, below a record of kind 1
 abbrev pub quadruple : Tree Held
 quadruple =
     inner 1 0 [] (child 65 (leaf 0 [] (holding 0 1)) (child 66 (leaf 1 [] (holding 1 2)) (child 67 (leaf 2 [] (holding 2 3)) (child 68 (leaf 3 [] (holding 3 4)) end))))
 
+-- that of A to E, below one of kind 2
 abbrev pub quintuple : Tree Held
 quintuple =
     inner 2 0 [] (child 65 (leaf 0 [] (holding 0 1)) (child 66 (leaf 1 [] (holding 1 2)) (child 67 (leaf 2 [] (holding 2 3)) (child 68 (leaf 3 [] (holding 3 4)) (child 69 (leaf 4 [] (holding 4 5)) end)))))
 
--- the trees of the two long tags, and of these and AX
+-- the tree of the two long tags
 abbrev pub long-tags : Tree Held
 long-tags = inner 1 0 AtoJ (child 49 (leaf 0 [] (holding 0 1)) (child 50 (leaf 1 [] (holding 1 2)) end))
 
+-- that of these and AX, with their run parted
 abbrev pub parted-tags : Tree Held
 parted-tags = inner 1 1 (65 ∷ []) (child 66 (inner 1 0 CtoJ (child 49 (leaf 0 [] (holding 0 1)) (child 50 (leaf 1 [] (holding 1 2)) end))) (child 88 (leaf 2 [] (holding 2 3)) end))
 

@@ -7,11 +7,13 @@ use Rattle.demands.specs.Calls.{Call, Slices, number}
 use Rattle.demands.specs.Histories.{CallBytes}
 use Rattle.demands.specs.Due.{Due}
 
+-- a call, what is lent to it, and its number
 pub record Line : Type 0 where
   pub call : Call
   pub lent : Slices
   pub number : ℕ
 
+-- of these three
 abbrev pub line : Call → Slices → ℕ → Line
 line c s n = record { call = c; lent = s; number = n }
 
@@ -30,7 +32,7 @@ abbrev pub Byted : List Line → Type 0
 Byted [] = Unit {0}
 Byted (l ∷ ls) = CallBytes (l .call) × Byted ls
 
--- a proof for a line, and those for the lines after it
 infixr 5 _then_
+-- a proof for a line, and those for the lines after it
 abbrev pub _then_ : {X Y : Type 0} → X → Y → X × Y
 x then y = (x, y)

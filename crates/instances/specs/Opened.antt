@@ -42,50 +42,62 @@ use Rattle.delete.specs.Apply.{merged, shrunk, pruned, goneWords}
 use Rattle.delete.specs.Delete.{deleteSound, deleteChecked, deleteOf}
 use Rattle.delete.specs.Plan as delete-plan
 
+-- of lists and prefix, with the tests on numbers: writing into a list, and a prefix compared, cut and joined
 unfoldable pub lists-opened : Unit {0}
 unfolding ℕ-discrete decLe decLt shiftIn shiftOut splice lengthMatch matchOf prefixOf ltrimOf splitOf pushOf mergeOf
 lists-opened = tt
 
+-- of art: how tags compare, and whether a row has a byte
 unfoldable pub art-opened : Unit {0}
 unfolding meet has meets-dec less-dec order tag-dec begins-dec fits-dec
 art-opened = tt
 
+-- of frames: the form, the frame and the kinds
 unfoldable pub frames-opened : Unit {0}
 unfolding formKnown formOf storedOf formFits trailerFits frameFits frameOf kindRow
 frames-opened = tt
 
+-- of records: a record's own rule, its children and its cell
 unfoldable pub records-opened : Unit {0}
 unfolding prefixAt headOk sortedOk indirectOk directOk bodyOk innerOk sortedChild indirectChild childOf childAt leafOk totalOf bodyRow cellOf
 records-opened = tt
 
+-- of edits: a record's head and body written and changed
 unfoldable pub edits-opened : Unit {0}
 unfolding sortedAdd sortedRemove sortedReplace slotAdd slotRemove slotReplace bodyChange sortedSpread slotSpread bodySpread sortedBody slotBody bodyOf setPrefix setHead changeOf spreadOf buildRec
 edits-opened = tt
 
+-- of pools and view: leaves, links, free records and start
 unfoldable pub pools-opened : Unit {0}
 unfolding leafWords setTotal setTrailer setNext setPrevious lowestFree freeKind startFits trailerWords startOf setLink linksOf
 pools-opened = tt
 
+-- of tree and leaves: the walks, and the calls on a leaf number
 unfoldable pub tree-opened : Unit {0}
 unfolding arrivalAt withFrame edgeRef edgeStep edgeOf leafState nextOf tagLen walk.leafAnswer walk.innerStep walk.stepOf walk.walkOf
 tree-opened = tt
 
+-- of whole: the check
 unfoldable pub whole-opened : Unit {0}
 unfolding rootWay wayWell wholeBy wholeOf checkOf placesIn fresh reached sweptAt sweptPool swept leafVisit turnAt rowEnd rowBy recordBy tagAt goesOn storedAgrees
 whole-opened = tt
 
+-- of range and points: first-at-or-after, and where a tag belongs
 unfoldable pub points-opened : Unit {0}
 unfolding range.below range.leafStep range.stepOf range.afterFrom range.afterOf points.leafPoint points.runOf points.innerStep points.stepOf points.pointFrom points.pointOf
 points-opened = tt
 
+-- of writes: a record or a leaf written at its place
 unfoldable pub writes-opened : Unit {0}
 unfolding changeAt prefixedAt branchAt moveAt dropAt clearAt leafIn keyIn leafOut keyOut totalAt
 writes-opened = tt
 
+-- of insert and delete: their plans, and what these make
 unfoldable pub calls-opened : Unit {0}
 unfolding grown forked hung newWords insertSound insertChecked insertOf insert-plan.intoChoice insert-plan.forkChoice insert-plan.leafPlan insert-plan.pointPlan insert-plan.planOf merged shrunk pruned goneWords deleteSound deleteChecked deleteOf delete-plan.otherEntry delete-plan.shrinkCut delete-plan.cutUnder delete-plan.pointPlan delete-plan.planOf
 calls-opened = tt
 
+-- all of them
 unfoldable pub opened : Unit {0}
 unfolding lists-opened art-opened frames-opened records-opened edits-opened pools-opened tree-opened whole-opened points-opened writes-opened calls-opened
 opened = tt

@@ -38,7 +38,7 @@ nextAt f words (inner-place k n) = found.Damaged
 unfoldable pub nextOf : Frame → List ℕ → ℕ → Found
 nextOf f words ref = choose (eqb ref 0) found.Missing (nextAt f words (placeAt ref))
 
--- by the next reference of a leaf that obeys its rule
+-- by word 3 of a leaf that obeys its rule; any other is 6 or 9
 abbrev pub nextFrom : Frame → List ℕ → ℕ → LeafState → Found
 nextFrom f words n (Good start) = nextOf f words (nextLeaf (recordAt f words (leaf-place n)))
 nextFrom f words n Broken = found.Damaged
@@ -49,7 +49,7 @@ abbrev pub nextLeafOf : List ℕ → List ℕ → ℕ → Found
 nextLeafOf words keys n = withFrame words keys (λ f. nextFrom f words n (leafState f words keys n)) found.Damaged
 
 -- ── length and total ──
--- of a leaf that obeys its rule
+-- of a leaf that obeys its rule; any other is 6 or 9
 abbrev pub factsFrom : List ℕ → LeafState → Facts
 factsFrom rec (Good start) = factsHere rec
 factsFrom rec Broken = facts.Damaged
@@ -60,13 +60,13 @@ abbrev pub factsOf : List ℕ → List ℕ → ℕ → Facts
 factsOf words keys n = withFrame words keys (λ f. factsFrom (recordAt f words (leaf-place n)) (leafState f words keys n)) facts.Damaged
 
 -- ── the tag ──
--- as many key bytes as its length says, and none on a refusal
+-- as many bytes as the leaf's record says, and none on a refusal
 abbrev pub lenFrom : List ℕ → LeafState → ℕ
 lenFrom rec (Good start) = tagLength rec
 lenFrom rec Broken = 0
 lenFrom rec NoLeaf = 0
 
--- the number of them
+-- so many of leaf n
 unfoldable pub tagLen : Frame → List ℕ → List ℕ → ℕ → ℕ
 tagLen f words keys n = lenFrom (recordAt f words (leaf-place n)) (leafState f words keys n)
 

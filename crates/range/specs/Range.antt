@@ -47,7 +47,7 @@ unfoldable pub afterFrom : Frame → List ℕ → List ℕ → List ℕ → ℕ 
 afterFrom f words keys tag zero ref = Damaged
 afterFrom f words keys tag (suc left) ref = elim (stepOf f words keys tag ref) [ Next r ↦ afterFrom f words keys tag left r | Final a ↦ a ]
 
--- the answer of a step that goes no further
+-- the answer of a step that goes no further; one that would go on is damage
 abbrev pub endedOf : Step → After
 endedOf (Next r) = Damaged
 endedOf (Final a) = a
@@ -66,26 +66,30 @@ afterIs none = Missing
 afterIs (some h) = Leaf (h .number) (h .total)
 
 -- ── the call ──
+-- what is found, and scratch as the call leaves it
 pub record Answer : Type 0 where
   pub result : After
   pub scratch : List ℕ
 
+-- this answer, with this scratch
 abbrev pub answer : After → List ℕ → Answer
 answer r s = record { result = r; scratch = s }
 
--- the answer's number, and what is returned beside it
+-- 0 done, 1 no such tag, 6 damaged block, 7 scratch too short
 abbrev pub numberOf : After → ℕ
 numberOf (Leaf n total) = 0
 numberOf Missing = 1
 numberOf Damaged = 6
 numberOf ShortScratch = 7
 
+-- the number of the leaf that is found; 0 on a refusal
 abbrev pub leafOf : After → ℕ
 leafOf (Leaf n total) = n
 leafOf Missing = 0
 leafOf Damaged = 0
 leafOf ShortScratch = 0
 
+-- its total; 0 on a refusal
 abbrev pub totalIn : After → ℕ
 totalIn (Leaf n total) = total
 totalIn Missing = 0

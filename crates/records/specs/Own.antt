@@ -14,7 +14,7 @@ use Rattle.frames.specs.Form.{header, recordWords, storedOf}
 use Rattle.frames.specs.declared.form.Form.{Form}
 use Rattle.records.specs.Words.{usedAs, childCount, fullLength, tagLength}
 
--- an inner record's prefix
+-- an inner record's prefix: its full length in word 2, and its stored bytes
 unfoldable pub prefixAt : Form → List ℕ → Prefix
 prefixAt form rec = record { full = record { 0 = fullLength rec }; stored = storedOf form rec }
 

@@ -13,13 +13,13 @@ use Rattle.frames.specs.declared.form.Form.{Form}
 use Rattle.records.specs.declared.representation.Entry.{Entry}
 use Rattle.records.specs.declared.representation.Entry.the-variants.{Child, Nothing}
 
--- keys beside their references
+-- keys beside their references, as far as there are both
 abbrev pub beside : List ℕ → List ℕ → List (ℕ × ℕ)
 beside [] rs = []
 beside (k ∷ ks) [] = []
 beside (k ∷ ks) (r ∷ rs) = (k, r) ∷ beside ks rs
 
--- the places that are not 0, the first of them for byte b
+-- the places that are not 0, each with its byte; that of the first place is b
 abbrev pub filled : ℕ → List ℕ → List (ℕ × ℕ)
 filled b [] = []
 filled b (r ∷ rs) = choose (eqb r 0) (filled (suc b) rs) ((b, r) ∷ filled (suc b) rs)
@@ -29,13 +29,15 @@ abbrev pub spread : List ℕ → List ℕ → List ℕ
 spread refs [] = []
 spread refs (s ∷ ss) = byslot refs s ∷ spread refs ss
 
--- kinds 1 and 2 with k places, n used; kind 3; kind 4
+-- kinds 1 and 2, with k places of which n are used: the first n bytes, each with its reference k places on
 abbrev pub sortedRow : ℕ → List ℕ → ℕ → List (ℕ × ℕ)
 sortedRow k body n = beside (between body 0 n) (between body k (k + n))
 
+-- kind 3: each byte whose slot number names a filled place, with the reference there
 abbrev pub indirectRow : List ℕ → List (ℕ × ℕ)
 indirectRow body = filled 0 (spread (between body 256 304) (between body 0 256))
 
+-- kind 4: each byte whose own place is filled
 abbrev pub directRow : List ℕ → List (ℕ × ℕ)
 directRow body = filled 0 body
 
@@ -48,6 +50,7 @@ abbrev pub rowAt : Form → ℕ → List ℕ → List (ℕ × ℕ)
 rowAt form kind rec = bodyRow kind (bodyPart form kind rec) (childCount rec)
 
 -- ── one child of a row ──
+-- a byte and its reference, as a child
 abbrev pub entry : ℕ × ℕ → Entry
 entry e = Child (e .0) (e .1)
 

@@ -20,7 +20,7 @@ use Rattle.tree.specs.declared.answer.Found.the-variants.{Missing, Damag
 use Rattle.tree.specs.declared.arrive.Arrival.{Arrival}
 use Rattle.tree.specs.declared.arrive.Arrival.the-variants.{Leaf, Inner, Broken}
 
--- an inner record is one of those left on the path
+-- an inner record is one of those left on the path; a leaf needs none
 abbrev pub onPath : ℕ → Place → Bool
 onPath left (leaf-place n) = true
 onPath left (inner-place k n) = ltb 0 left
@@ -40,12 +40,13 @@ pub record LeafFits (limit : ℕ) (rec key : List ℕ) : Type 0 where
   pub wide : length key ≡ limit
   pub ok : leafOk limit rec key ≡ true
 
--- a leaf, or an inner record, that lies within the slices and obeys its rule
+-- leaf n, whose words from start on and key bytes lie within the slices and obey its rule
 pub record LeafThere (limit : ℕ) (words keys : List ℕ) (n start : ℕ) : Type 0 where
   pub room : start + 6 ≤ length words
   pub bytes : n * limit + limit ≤ length keys
   pub fits : LeafFits limit (between words start (start + 6)) (between keys (n * limit) (n * limit + limit))
 
+-- an inner record of the kind, whose words from start on lie within the slice and obey its rule
 pub record InnerThere (form : Form) (words : List ℕ) (kind start : ℕ) : Type 0 where
   pub room : start + recordWords form kind ≤ length words
   pub fits : InnerFits form kind (between words start (start + recordWords form kind))

@@ -52,11 +52,11 @@ unfoldable pub leafAnswer : List ℕ → List ℕ → List ℕ → Aim → ℕ �
 leafAnswer rec key tag aim n depth behavior = choose (leafFits rec key tag aim depth behavior) (leafFound n rec) Missing
 
 -- ── at an inner record ──
--- past the prefix: the child for the next byte
+-- on to the child at this depth; where there is none nothing is found
 abbrev pub childStep : ℕ → ℕ → PrefixMatchBehavior → Step
 childStep child depth behavior = choose (eqb child 0) (Final Missing) (Next child depth behavior)
 
--- where comparing leaves the prefix nothing is found
+-- past the prefix by the child for the next byte; where comparing leaves the prefix nothing is found
 abbrev pub afterMatch : Form → ℕ → List ℕ → List ℕ → PrefixMatch → Step
 afterMatch form kind rec tag (On d behavior) = childStep (childAt form kind rec (getD tag d 0)) (d + 1) behavior
 afterMatch form kind rec tag (Off agreed) = Final Missing
@@ -78,7 +78,7 @@ stepFrom f words keys tag aim depth behavior Broken = Final Damaged
 unfoldable pub stepOf : Frame → List ℕ → List ℕ → List ℕ → Aim → ℕ → ℕ → ℕ → PrefixMatchBehavior → Step
 stepOf f words keys tag aim left ref depth behavior = stepFrom f words keys tag aim depth behavior (arrivalAt f words keys left (placeAt ref))
 
--- the answer of a step that goes no further
+-- the answer of a step that goes no further; one that would go on is damage
 abbrev pub endedOf : Step → Found
 endedOf (Next r d s) = Damaged
 endedOf (Final a) = a

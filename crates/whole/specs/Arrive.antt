@@ -14,7 +14,7 @@ use Rattle.tree.specs.declared.arrive.Arrival.the-variants.{Leaf, Inner, Broken
 abbrev pub innerRec : Form → List ℕ → ℕ → ℕ → List ℕ
 innerRec form words kind start = between words start (start + recordWords form kind)
 
--- what was arrived at lies within the words
+-- what was arrived at lies within the words, and an inner record obeys its rule
 abbrev pub There : Frame → List ℕ → Arrival → Type 0
 There f words (Leaf n start) = start + 6 ≤ length words
 There f words (Inner kind start) = InnerThere (f .form) words kind start

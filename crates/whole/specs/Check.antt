@@ -42,14 +42,16 @@ unfoldable pub wholeOf : List ℕ → List ℕ → Bool
 wholeOf words keys = choose (frameFits words keys) (wholeBy (frame words) words keys) false
 
 -- ── the call ──
+-- what the check finds, and scratch as it leaves it
 pub record Answer : Type 0 where
   pub result : Checked
   pub scratch : List ℕ
 
+-- this answer, with this scratch
 abbrev pub answer : Checked → List ℕ → Answer
 answer r s = record { result = r; scratch = s }
 
--- the answer's number
+-- 0 sound, 6 damaged block, 7 scratch too short
 abbrev pub numberOf : Checked → ℕ
 numberOf Sound = 0
 numberOf Damaged = 6

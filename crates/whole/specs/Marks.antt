@@ -24,16 +24,18 @@ abbrev pub markAt : Frame → Place → ℕ
 markAt f (leaf-place n) = sumTo 5 (f .caps) + n
 markAt f (inner-place k n) = sumTo k (f .caps) + n
 
--- a mark that is not set
+-- there is such a mark, and it is not set
 abbrev pub unmarked : ℕ → List ℕ → Bool
 unmarked at marks = ltb at (length marks) && eqb (getD marks at 0) 0
 
+-- the marks with that one set; where it is set or there is none, as they are
 abbrev pub setMark : ℕ → List ℕ → List ℕ
 setMark at marks = choose (unmarked at marks) (set marks at 1) marks
 
--- a reference to a record of a pool that is not yet reached, and the marks once it is
+-- a reference to a record of a pool that is not yet reached
 unfoldable pub fresh : Frame → ℕ → List ℕ → Bool
 fresh f ref marks = inPool f (placeAt ref) && unmarked (markAt f (placeAt ref)) marks
 
+-- the marks once it is; any other reference leaves them as they are
 unfoldable pub reached : Frame → ℕ → List ℕ → List ℕ
 reached f ref marks = choose (fresh f ref marks) (set marks (markAt f (placeAt ref)) 1) marks

@@ -19,10 +19,11 @@ allUnder (suc n) p = allUnder n p && p n
 unfoldable pub sweptAt : Frame → List ℕ → List ℕ → List ℕ → Place → Bool
 sweptAt f words keys m x = choose (unmarked (markAt f x) m) (blankAt f words keys x) true
 
--- so in a kind's pool, and in all five
+-- so in a kind's pool
 unfoldable pub sweptPool : Frame → List ℕ → List ℕ → List ℕ → ℕ → Bool
 sweptPool f words keys m kind = allUnder (getD (f .caps) kind 0) (λ n. sweptAt f words keys m (placeAt (n * 8 + kind)))
 
+-- and in all five pools
 unfoldable pub swept : Frame → List ℕ → List ℕ → List ℕ → Bool
 swept f words keys m =
     sweptPool f words keys m 1 && sweptPool f words keys m 2 && sweptPool f words keys m 3 && sweptPool f words keys m 4 && sweptPool f words keys m 5

@@ -29,6 +29,7 @@ pub record Way : Type 0 where
   pub visit : Visit
   pub marks : List ℕ
 
+-- this answer, with these marks
 abbrev pub way : Visit → List ℕ → Way
 way v m = record { visit = v; marks = m }
 
@@ -48,6 +49,7 @@ turnOf f words ref depth s Broken = Done Ill
 unfoldable pub turnAt : Frame → List ℕ → List ℕ → ℕ → ℕ → ℕ → List ℕ → Seen → Turn
 turnAt f words keys left ref depth m s = choose (fresh f ref m) (turnOf f words ref depth s (arrivalAt f words keys left (placeAt ref))) (Done Ill)
 
+-- the answer of a turn that ends at its record; one that has still a row to go over is ill
 abbrev pub doneOf : Turn → Visit
 doneOf (Branch row) = Ill
 doneOf (Done v) = v
@@ -88,6 +90,7 @@ abbrev pub rowFrom : ℕ → List (ℕ × ℕ) → List (ℕ × ℕ)
 rowFrom b [] = []
 rowFrom b (c ∷ cs) = choose (leb b (c .0)) (c ∷ cs) (rowFrom b cs)
 
+-- all children of the row's record
 abbrev pub rowOf : Frame → List ℕ → Row → List (ℕ × ℕ)
 rowOf f words row = rowAt (f .form) (row .kind) (innerRec (f .form) words (row .kind) (row .start))
 
@@ -97,6 +100,7 @@ abbrev pub afterTurn : Frame → List ℕ → List ℕ → (Row → List ℕ →
 afterTurn f words keys check depth (Branch row) m = way (recordEnd f words keys row depth (check row m .visit)) (check row m .marks)
 afterTurn f words keys check depth (Done v) m = way v m
 
+-- the record that a reference names, marked as reached; each child of its row is checked by g
 abbrev pub recordWith : Frame → List ℕ → List ℕ → ℕ → (ℕ → ℕ → List ℕ → Seen → Way) → ℕ → ℕ → List ℕ → Seen → Way
 recordWith f words keys left g ref depth m s =
     afterTurn f words keys (λ row m′. rowBy f words keys g (row .depth) 0 (rowOf f words row) m′ s) depth (turnAt f words keys left ref depth m s) (reached f ref m)
@@ -111,21 +115,23 @@ abbrev pub rowWay : Frame → List ℕ → List ℕ → ℕ → Row → ℕ → 
 rowWay f words keys left row byte w m s = rowBy f words keys (recordBy f words keys left) (row .depth) w (rowFrom byte (rowOf f words row)) m s
 
 -- ── what holds on the way ──
--- what is handed up is a leaf, and no more leaves are counted than records are marked
+-- what is handed up is a leaf that obeys its rule
 abbrev pub Sees : Frame → List ℕ → List ℕ → Visit → Type 0
 Sees f words keys (Well w s) = LeafSeen f words keys w
 Sees f words keys Ill = Unit {0}
 
+-- no more leaves are counted than records are marked
 abbrev pub Counted : List ℕ → Visit → Type 0
 Counted m (Well w s) = s .count ≤ count nonzero m
 Counted m Ill = Unit {0}
 
--- the depth is a small number, since each inner record of a path adds a small one
+-- before a record: the frame is the block's, the count is within the marks, and the depth is small, since each inner record of a path adds a small number
 pub record RecordReady (f : Frame) (words keys : List ℕ) (left depth : ℕ) (s : Seen) (m : List ℕ) : Type 0 where
   pub frame : FrameOf f words keys
   pub counted : s .count ≤ count nonzero m
   pub shallow : depth + left * 256 ≤ 65536
 
+-- before the rest of a row, from a byte on: the same, the row's record is there and obeys its rule, and its witness is a leaf or none yet
 pub record RowReady (f : Frame) (words keys : List ℕ) (left : ℕ) (row : Row) (byte w : ℕ) (s : Seen) (m : List ℕ) : Type 0 where
   pub frame : FrameOf f words keys
   pub there : InnerThere (f .form) words (row .kind) (row .start)

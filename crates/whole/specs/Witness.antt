@@ -24,10 +24,11 @@ pub record LeafSeen (f : Frame) (words keys : List ℕ) (ref : ℕ) : Type 0 whe
 pub record WitnessSeen (f : Frame) (words keys : List ℕ) (ref : ℕ) : Type 0 where
   pub seen : (ref ≡ 0 → ⊥) → LeafSeen f words keys ref
 
--- the length of the leaf's tag, and the tag
+-- the length of the leaf's tag
 abbrev pub lengthAt : Frame → List ℕ → ℕ → ℕ
 lengthAt f words ref = tagLength (recordAt f words (leaf-place (ref / 8)))
 
+-- the tag: as many of the leaf's key bytes
 unfoldable pub tagAt : Frame → List ℕ → List ℕ → ℕ → List ℕ
 tagAt f words keys ref = take (lengthAt f words ref) (keyAt f keys (ref / 8))
 
