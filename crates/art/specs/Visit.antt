@@ -1,4 +1,4 @@
--- The check's way through a store: by turns from a record to its row of children, each place once, the leaves as the list has them.
+-- The check's way through a store: a record and its children by turns, each place once, the leaves as the list has them.
 use mathlib.Core.Path.{_≡_}
 use mathlib.Core.Logic.{ite}
 use mathlib.Core.Bool.{Bool, true, false}

@@ -24,7 +24,7 @@ use Rattle.delete.specs.declared.plan.Plan.{Plan}
 use Rattle.delete.specs.declared.plan.Plan.the-variants.{Take, Missing, Broken}
 use Rattle.delete.proofs.Ready.{delete-ready}
 
--- ---- a plan for a sound block is ready
+-- ── a plan for a sound block is ready ──
 ready-by : {words keys : List ℕ} → Sound words keys → (tag : List ℕ) → Bytes tag → (p : Plan) → planOf (frame words) words keys tag ≡ p
     → PlanReady (frame words) words p
 ready-by s tag b (Take cut n gap) e = delete-ready s tag b cut n gap e
@@ -38,7 +38,7 @@ plan-ready {f} {words} {keys} w s tag b {p} e =
     subst (λ (g : Frame). PlanReady g words p) (sym (w .read))
     (ready-by s tag b p (sym (e ∙ ap (λ (g : Frame). planOf g words keys tag) (w .read))))
 
--- ---- the plan carried out
+-- ── the plan carried out ──
 module _ (f : Frame) (words keys scratch : List ℕ) where
   pub gone-by : {cut : Cut} {n total : ℕ} {gap : Gap} {w k : List ℕ} {p : Plan} → p ≡ Take cut n gap → total ≡ totalOf (recordAt f words (leaf-place n))
       → w ≡ goneWords f cut n gap words → k ≡ keyOut f n keys → out (deleted.Gone total) w k scratch ≡ planned f words keys scratch p
@@ -54,7 +54,7 @@ module _ (f : Frame) (words keys scratch : List ℕ) where
   sound-by tag w e h =
       h ∙ ap (planned f words keys scratch) e ∙ ap (λ (g : Frame). planned g words keys scratch (planOf g words keys tag)) (w .read)
 
--- ---- the call
+-- ── the call ──
 module _ (words keys scratch : List ℕ) {c : Checked} {s : List ℕ} (e : check.answer c s ≡ check.checkOf words keys scratch) where
   pub call-sound : c ≡ checked.Sound → Sound words keys
   call-sound k = zero-sound words keys scratch (ap (λ (x : check.Answer). check.numberOf (x .result)) (sym e) ∙ ap check.numberOf k)

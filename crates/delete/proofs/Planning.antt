@@ -29,7 +29,7 @@ use Rattle.delete.specs.declared.plan.Cut.the-variants.{Stay, Shrink}
 use Rattle.delete.specs.declared.plan.Plan.{Plan}
 use Rattle.delete.specs.declared.plan.Plan.the-variants.{Take, Missing}
 
--- ---- of two children the other one
+-- ── of two children the other one ──
 pub other-by : (byte : ℕ) (row : List (ℕ × ℕ)) {x y : Entry} → x ≡ entryAt 0 row → x ≡ y → otherThan byte y (lastEntry row) ≡ otherEntry byte row
 unfolding otherEntry
 other-by byte row e q = ap (λ (z : Entry). otherThan byte z (lastEntry row)) (sym q ∙ e)
@@ -41,7 +41,7 @@ module _ (byte b ref : ℕ) (last : Entry) where
   pub other-first : (b ≡ byte → ⊥) → Child b ref ≡ otherThan byte (Child b ref) last
   other-first e = ap (λ (t : Bool). choose t last (Child b ref)) (sym (ne-eqb b byte e))
 
--- ---- the next smaller kind
+-- ── the next smaller kind ──
 module _ (f : Frame) (words : List ℕ) (upper : Up) (ref byte : ℕ) {n : ℕ} (e : n ≡ lowestFree f words (ref % 8 - 1)) where
   abbrev shrink : ℕ → Bool → Cut
   shrink m b = choose b (Shrink upper ref (m * 8 + (ref % 8 - 1)) byte) (Stay ref byte)
@@ -56,7 +56,7 @@ module _ (f : Frame) (words : List ℕ) (upper : Up) (ref byte : ℕ) {n : ℕ} 
   pub shrink-none : getD (f .caps) (ref % 8 - 1) 0 ≤ n → Stay ref byte ≡ shrinkCut f words upper ref byte
   shrink-none h = shrink-by (le-ltb n (getD (f .caps) (ref % 8 - 1) 0) h)
 
--- ---- the record above, by its child count
+-- ── the record above, by its child count ──
 -- a record of kind 1 never shrinks
 pub mark-two : (kind : ℕ) → 1 ≤ kind → kind ≤ 4 → 2 < markOf kind + 1 → 2 ≤ kind
 unfolding kindRow
@@ -89,14 +89,14 @@ module _ (f : Frame) (words : List ℕ) (upper : Up) (ref byte : ℕ) {n : ℕ} 
     pub under-stay : row .mark + 1 < n → Stay ref byte ≡ cutUnder f words upper ref byte
     under-stay h = under-by (lt-leb n 2 l) (lt-leb n (markOf (ref % 8) + 1) (omega (arith, mark)))
 
--- ---- the leaf that holds the tag
+-- ── the leaf that holds the tag ──
 pub out-by : (f : Frame) (words : List ℕ) (upper up : Up) (leaf : ℕ) {cut : Cut} {gap : Gap} → cut ≡ cutOf f words upper up → gap ≡ gapOf f words (leaf / 8)
     → Take cut (leaf / 8) gap ≡ pointPlan f words (point.Holds upper up leaf)
 unfolding pointPlan
 out-by f words upper up leaf {cut} {gap} p q =
     ap (λ (x : Cut). Take x (leaf / 8) gap) p ∙ ap (λ (g : Gap). Take (cutOf f words upper up) (leaf / 8) g) q
 
--- ---- the plan
+-- ── the plan ──
 module _ (f : Frame) (words keys tag : List ℕ) {root : ℕ} (e : root ≡ rootWord words) where
   abbrev by-root : Bool → ℕ → Plan
   by-root b r = choose b Missing (pointPlan f words (pointOf f words keys tag r))

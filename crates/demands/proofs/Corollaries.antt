@@ -35,7 +35,7 @@ use Rattle.delete.specs.Answer as delete-answer
 use Rattle.delete.specs.Delete as delete-call
 use Rattle.delete.specs.declared.answer.Deleted.{Deleted}
 use Rattle.delete.specs.declared.answer.Deleted.the-variants as deleted
-use Rattle.demands.specs.Histories.{Block, next, leaves, nothing, insertChange, deleteChange, changeOf, totals, told, CallBytes}
+use Rattle.demands.specs.Histories.{Block, next, leaves, nothing, insertChange, deleteChange, changeOf, totals, amended, CallBytes}
 use Rattle.demands.specs.Drawn.{drawing}
 use Rattle.demands.specs.Accepts.{Edit, insert, delete, tagOf, callOf, turn, Accepted, effect, done}
 use Rattle.demands.proofs.Changes.{frame-limit, insert-sound, over-held}
@@ -127,33 +127,33 @@ pub edit-sound : (b : Block) (s : Sound (b .words) (b .keys)) → Bytes (b .keys
     → (t : Sound (next b (turn e scratch) .words) (next b (turn e scratch) .keys)) × (totals (held (t .tree)) ≡ done e (totals (held (s .tree))))
 edit-sound b s k e scratch h a =
     let z = step-sound b s k (turn e scratch) (edit-bytes e h) in
-    (z .0, z .1 ∙ ap (told (totals (held (s .tree)))) (does s e scratch h k a))
+    (z .0, z .1 ∙ ap (amended (totals (held (s .tree)))) (does s e scratch h k a))
 
 -- ── on listings ──
-told-lookup : (t : Tag) (x : Edit) → t ≢ tagOf x → (o : Option ℕ) (l : Listing ℕ) → lookup t (told l (effect x o)) ≡ lookup t l
-told-lookup t (insert tag total) ne none l = lookup-put t tag ne total l
-told-lookup t (insert tag total) ne (some old) l = lookup-alter t tag ne (λ x. some total) l
-told-lookup t (delete tag) ne o l = lookup-alter t tag ne (λ x. none) l
+amended-lookup : (t : Tag) (x : Edit) → t ≢ tagOf x → (o : Option ℕ) (l : Listing ℕ) → lookup t (amended l (effect x o)) ≡ lookup t l
+amended-lookup t (insert tag total) ne none l = lookup-put t tag ne total l
+amended-lookup t (insert tag total) ne (some old) l = lookup-alter t tag ne (λ x. some total) l
+amended-lookup t (delete tag) ne o l = lookup-alter t tag ne (λ x. none) l
 
-swap-told : (x y : Edit) → tagOf x ≢ tagOf y → (o p : Option ℕ) (l : Listing ℕ) → Sorted l → told (told l (effect x o)) (effect y p) ≡ told (told l (effect y p)) (effect x o)
-swap-told (insert s a) (insert t b) ne none none l h = put-put t s (λ q. ne (sym q)) b a l
-swap-told (insert s a) (insert t b) ne none (some p) l h = sym (put-alter s t ne a (λ x. some b) l h)
-swap-told (insert s a) (insert t b) ne (some o) none l h = put-alter t s (λ q. ne (sym q)) b (λ x. some a) l h
-swap-told (insert s a) (insert t b) ne (some o) (some p) l h = alter-alter t s (λ q. ne (sym q)) (λ x. some b) (λ x. some a) l
-swap-told (insert s a) (delete t) ne none p l h = sym (put-alter s t ne a (λ x. none) l h)
-swap-told (insert s a) (delete t) ne (some o) p l h = alter-alter t s (λ q. ne (sym q)) (λ x. none) (λ x. some a) l
-swap-told (delete s) (insert t b) ne o none l h = put-alter t s (λ q. ne (sym q)) b (λ x. none) l h
-swap-told (delete s) (insert t b) ne o (some p) l h = alter-alter t s (λ q. ne (sym q)) (λ x. some b) (λ x. none) l
-swap-told (delete s) (delete t) ne o p l h = alter-alter t s (λ q. ne (sym q)) (λ x. none) (λ x. none) l
+swap-amended : (x y : Edit) → tagOf x ≢ tagOf y → (o p : Option ℕ) (l : Listing ℕ) → Sorted l → amended (amended l (effect x o)) (effect y p) ≡ amended (amended l (effect y p)) (effect x o)
+swap-amended (insert s a) (insert t b) ne none none l h = put-put t s (λ q. ne (sym q)) b a l
+swap-amended (insert s a) (insert t b) ne none (some p) l h = sym (put-alter s t ne a (λ x. some b) l h)
+swap-amended (insert s a) (insert t b) ne (some o) none l h = put-alter t s (λ q. ne (sym q)) b (λ x. some a) l h
+swap-amended (insert s a) (insert t b) ne (some o) (some p) l h = alter-alter t s (λ q. ne (sym q)) (λ x. some b) (λ x. some a) l
+swap-amended (insert s a) (delete t) ne none p l h = sym (put-alter s t ne a (λ x. none) l h)
+swap-amended (insert s a) (delete t) ne (some o) p l h = alter-alter t s (λ q. ne (sym q)) (λ x. none) (λ x. some a) l
+swap-amended (delete s) (insert t b) ne o none l h = put-alter t s (λ q. ne (sym q)) b (λ x. none) l h
+swap-amended (delete s) (insert t b) ne o (some p) l h = alter-alter t s (λ q. ne (sym q)) (λ x. some b) (λ x. none) l
+swap-amended (delete s) (delete t) ne o p l h = alter-alter t s (λ q. ne (sym q)) (λ x. none) (λ x. none) l
 
 -- changes to different tags, in either order
 pub done-done : (x y : Edit) → tagOf x ≢ tagOf y → (l : Listing ℕ) → Sorted l → done y (done x l) ≡ done x (done y l)
 done-done x y ne l h =
     let o = lookup (tagOf x) l in
     let p = lookup (tagOf y) l in
-    ap (λ (q : Option ℕ). told (done x l) (effect y q)) (told-lookup (tagOf y) x (λ q. ne (sym q)) o l)
-    ∙ swap-told x y ne o p l h
-    ∙ sym (ap (λ (q : Option ℕ). told (done y l) (effect x q)) (told-lookup (tagOf x) y ne p l))
+    ap (λ (q : Option ℕ). amended (done x l) (effect y q)) (amended-lookup (tagOf y) x (λ q. ne (sym q)) o l)
+    ∙ swap-amended x y ne o p l h
+    ∙ sym (ap (λ (q : Option ℕ). amended (done y l) (effect x q)) (amended-lookup (tagOf x) y ne p l))
 
 -- ── the two corollaries ──
 -- two changes to different tags draw the same tree in either order, where both orders are accepted
@@ -181,4 +181,4 @@ restored b z k tag total h unheld p q a c s =
     let first = edit-sound b z k (insert tag total) p h a in
     let second = edit-sound (next b (turn (insert tag total) p)) (first .0) (step-bytes b k (turn (insert tag total) p) h) (delete tag) q h c in
     ap drawing (one-tree s (second .0))
-    ∙ drawn-same (second .0) z (second .1 ∙ ap (done (delete tag)) (first .1 ∙ ap (λ (o : Option ℕ). told l (effect (insert tag total) o)) free) ∙ put-leave tag total l (new-lookup tag l free))
+    ∙ drawn-same (second .0) z (second .1 ∙ ap (done (delete tag)) (first .1 ∙ ap (λ (o : Option ℕ). amended l (effect (insert tag total) o)) free) ∙ put-leave tag total l (new-lookup tag l free))

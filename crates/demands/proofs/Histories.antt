@@ -17,7 +17,7 @@ use Rattle.pools.specs.declared.start.Started.the-variants as started
 use Rattle.reading.specs.Answers.{Bytes}
 use Rattle.whole.specs.Sound.{Sound}
 use Rattle.demands.specs.Calls.{start}
-use Rattle.demands.specs.Histories.{Block, Turn, lent, next, after-all, changeOf, totals, told, told-all, Tally, tally, Tallied, counted, counted-all, AllBytes}
+use Rattle.demands.specs.Histories.{Block, Turn, lent, next, after-all, changeOf, totals, amended, amended-all, Tally, tally, Tallied, counted, counted-all, AllBytes}
 use Rattle.demands.specs.Drawn.{plain-of, drawing}
 use Rattle.demands.specs.Story.{Story}
 use Rattle.demands.proofs.Reading.{sound-reads}
@@ -51,17 +51,17 @@ sound-story b s k {l} {n} e m = record {
 -- ── any calls ──
 -- on a sound block
 pub history-from : (b : Block) (s : Sound (b .words) (b .keys)) → Bytes (b .keys) → (l : Listing ℕ) (n : Tally) → totals (held (s .tree)) ≡ l → Tallied l n → (ts : List Turn) → AllBytes ts
-    → Story (after-all b ts) (told-all b l ts) (counted-all b n ts)
+    → Story (after-all b ts) (amended-all b l ts) (counted-all b n ts)
 history-from b s k l n e m [] h = sound-story b s k e m
 history-from b s k l n e m (t ∷ ts) h =
     let c = changeOf (t .call) (lent b t) in
     let z = step-sound b s k t (h .0) in
-    history-from (next b t) (z .0) (step-bytes b k t (h .0)) (told l c) (counted n c) (z .1 ∙ ap (λ (k : Listing ℕ). told k c) e)
-    (subst (λ (k : Listing ℕ). Tallied (told k c) (counted n c)) e (step-counts b s t (h .0) n (subst (λ (k : Listing ℕ). Tallied k n) (sym e) m))) ts (h .1)
+    history-from (next b t) (z .0) (step-bytes b k t (h .0)) (amended l c) (counted n c) (z .1 ∙ ap (λ (k : Listing ℕ). amended k c) e)
+    (subst (λ (k : Listing ℕ). Tallied (amended k c) (counted n c)) e (step-counts b s t (h .0) n (subst (λ (k : Listing ℕ). Tallied k n) (sym e) m))) ts (h .1)
 
 -- from any slices on which a start is accepted
 pub history : (b : Block) (c : Caps) (scratch : List ℕ) → startOf (b .words) (b .keys) c .answer ≡ started.Done → (ts : List Turn) → AllBytes ts
-    → let b₀ = next b (record { call = start c; scratch = scratch }) in Story (after-all b₀ ts) (told-all b₀ [] ts) (counted-all b₀ (tally 0 0) ts)
+    → let b₀ = next b (record { call = start c; scratch = scratch }) in Story (after-all b₀ ts) (amended-all b₀ [] ts) (counted-all b₀ (tally 0 0) ts)
 history b c scratch e ts h =
     let z = start-sound (b .words) (b .keys) c e in
     history-from (next b (record { call = start c; scratch = scratch })) (z .0) (start-bytes (b .words) (b .keys) c e) [] (tally 0 0) (ap (λ (d : Option (Tree Held)). totals (held d)) (z .1)) refl ts h

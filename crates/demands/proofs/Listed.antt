@@ -4,7 +4,6 @@ use mathlib.Core.Path.{refl, sym, ap, _∙_}
 use Rattle.leaves.specs.Leaf.{nextLeafOf, factsOf, tagOf}
 use Rattle.whole.specs.Sound.{Sound}
 use Rattle.insert.specs.declared.answer.Inserted.the-variants as inserted
-use Rattle.insert.proofs.Ready.{bytes-all}
 use Rattle.delete.proofs.Answers.{call-answers}
 use Rattle.demands.specs.Calls as calls
 use Rattle.demands.specs.Calls.{Call, Slices, run}
@@ -30,7 +29,7 @@ listed-by s z (calls.leaf-tag n) b r =
 listed-by s z calls.check b r = ap calls.checked (check-passed s (record { room = r; sound = z }))
 listed-by s z (calls.first-at-or-after t) b r = ap calls.after (after-passed s t (record { room = r; sound = z }))
 listed-by s z (calls.insert t total) b r = (λ h. ap calls.inserted (insert-too-long s t total h), λ h. (_, refl, inserts-listed s t total b h (record { room = r; sound = z })))
-listed-by s z (calls.delete t) b r = ap calls.deleted (call-answers z t (bytes-all t b) (s .scratch) r .answer)
+listed-by s z (calls.delete t) b r = ap calls.deleted (call-answers z t b (s .scratch) r .answer)
 
 -- demand 2: on every sound block, with scratch enough, each call answers as the sorted list of what the block holds
 pub sound-listed : (b : Block) (s : Sound (b .words) (b .keys)) (t : Turn) → CallBytes (t .call) → Suffices (t .call) (lent b t) → Listed s (t .call) (answered b t)

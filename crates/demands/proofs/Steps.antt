@@ -36,7 +36,7 @@ use Rattle.insert.specs.Insert as insert-call
 use Rattle.insert.specs.Meets.{newTotal}
 use Rattle.delete.specs.Delete as delete-call
 use Rattle.demands.specs.Calls.{Call, start, search, prefix-search, minimum, maximum, next-leaf, leaf-facts, leaf-tag, check, first-at-or-after, insert, delete, Slices, run}
-use Rattle.demands.specs.Histories.{Block, Turn, lent, next, Change, nothing, startChange, insertChange, deleteChange, changeOf, totals, told, Tally, Tallied, counted, CallBytes}
+use Rattle.demands.specs.Histories.{Block, Turn, lent, next, Change, nothing, startChange, insertChange, deleteChange, changeOf, totals, amended, Tally, Tallied, counted, CallBytes}
 use Rattle.demands.proofs.Changes.{frame-limit, insert-sound, over-sound, delete-held, delete-sound}
 use Rattle.demands.proofs.Cases.{refused-done, insert-cases, delete-cases}
 use Rattle.demands.proofs.Totals.{total-of, totals-sorted, totals-put, totals-alter, totals-lookup}
@@ -77,7 +77,7 @@ start-sound words keys c done = go (startFits (formOf 1) c (length words) (lengt
 -- ── one call ──
 -- a sound block whose tags and totals are l after the change
 abbrev Stepped : Listing ℕ → (words keys : List ℕ) → Change → Type 0
-Stepped l words keys c = (s : Sound words keys) × (totals (held (s .tree)) ≡ told l c)
+Stepped l words keys c = (s : Sound words keys) × (totals (held (s .tree)) ≡ amended l c)
 
 module _ {words keys : List ℕ} (s : Sound words keys) where
   abbrev list : Listing ℕ
@@ -85,7 +85,7 @@ module _ {words keys : List ℕ} (s : Sound words keys) where
 
   -- where the words and key bytes are as they came
   same : (c : Change) → c ≡ nothing → Stepped list words keys c
-  same c e = (s, ap (told list) (sym e))
+  same c e = (s, ap (amended list) (sym e))
 
   start-step : (c : Caps) → let o = startOf words keys c in Stepped list (o .words) (o .keys) (startChange (o .answer))
   start-step c = go (startFits (formOf 1) c (length words) (length keys)) refl
@@ -94,7 +94,7 @@ module _ {words keys : List ℕ} (s : Sound words keys) where
       AfterStart o = Stepped list (o .words) (o .keys) (startChange (o .answer))
 
       go : (b : Bool) → startFits (formOf 1) c (length words) (length keys) ≡ b → AfterStart (startOf words keys c)
-      go true e = let n = empty-sound (start-empty words keys c e) in (n .0, ap (λ (d : Option (Tree Held)). totals (held d)) (n .1) ∙ ap (λ a. told list (startChange a)) (sym (start-done words keys c e)))
+      go true e = let n = empty-sound (start-empty words keys c e) in (n .0, ap (λ (d : Option (Tree Held)). totals (held d)) (n .1) ∙ ap (λ a. amended list (startChange a)) (sym (start-done words keys c e)))
       go false e = subst AfterStart (sym (start-refused words keys c e)) (same nothing refl)
 
   insert-step : (scratch tag : List ℕ) (total : ℕ) → CallBytes (insert tag total) → Bytes keys
@@ -129,13 +129,13 @@ module _ {words keys : List ℕ} (s : Sound words keys) where
 
 -- one call on a sound block: sound again, with the tags and totals that the call defines
 pub step-sound : (b : Block) (s : Sound (b .words) (b .keys)) → Bytes (b .keys) → (t : Turn) → CallBytes (t .call)
-    → (s′ : Sound (next b t .words) (next b t .keys)) × (totals (held (s′ .tree)) ≡ told (totals (held (s .tree))) (changeOf (t .call) (lent b t)))
+    → (s′ : Sound (next b t .words) (next b t .keys)) × (totals (held (s′ .tree)) ≡ amended (totals (held (s .tree))) (changeOf (t .call) (lent b t)))
 step-sound b s k t h = step-by s (t .call) (t .scratch) h k
 
 -- ── how many ──
 -- what is tallied before a change is so after it
 abbrev Counts : Listing ℕ → Change → Type 0
-Counts l c = (n : Tally) → Tallied l n → Tallied (told l c) (counted n c)
+Counts l c = (n : Tally) → Tallied l n → Tallied (amended l c) (counted n c)
 
 start-counts : (l : Listing ℕ) (a : Started) → Counts l (startChange a)
 start-counts l started.Done n e = refl
@@ -176,5 +176,5 @@ module _ {words keys : List ℕ} (s : Sound words keys) where
 
 -- an accepted new insert makes the list one longer, an accepted delete one shorter
 pub step-counts : (b : Block) (s : Sound (b .words) (b .keys)) (t : Turn) → CallBytes (t .call) → (n : Tally) → Tallied (totals (held (s .tree))) n
-    → Tallied (told (totals (held (s .tree))) (changeOf (t .call) (lent b t))) (counted n (changeOf (t .call) (lent b t)))
+    → Tallied (amended (totals (held (s .tree))) (changeOf (t .call) (lent b t))) (counted n (changeOf (t .call) (lent b t)))
 step-counts b s t h = counts-by s (t .call) (t .scratch) h

@@ -7,7 +7,7 @@ use Rattle.art.specs.Tags.{Tag, Listing}
 use Rattle.art.specs.Listings.{lookup}
 use Rattle.demands.specs.Calls as calls
 use Rattle.demands.specs.Calls.{Call, numberOf}
-use Rattle.demands.specs.Histories.{Block, Turn, answered, Change, puts, alters, leaves, told}
+use Rattle.demands.specs.Histories.{Block, Turn, answered, Change, puts, alters, leaves, amended}
 
 -- the two calls that change a tag
 pub data Edit : Type 0 where
@@ -40,4 +40,4 @@ effect (delete tag) o = leaves tag
 
 -- the listing after an accepted one: its effect, by what was held for the tag
 abbrev pub done : Edit → Listing ℕ → Listing ℕ
-done e l = told l (effect e (lookup (tagOf e) l))
+done e l = amended l (effect e (lookup (tagOf e) l))

@@ -90,7 +90,7 @@ pub data Due : Call → Slices → ℕ → Type 0 where
   -- start: 8 where a capacity or a length does not fit, else 0
   start-refused : {c : Caps} {s : Slices} → startFits (formOf 1) c (length (s .words)) (length (s .keys)) ≡ false → Due (start c) s 8
   start-done : {c : Caps} {s : Slices} → startFits (formOf 1) c (length (s .words)) (length (s .keys)) ≡ true → Due (start c) s 0
-  -- search, prefix search, minimum, maximum: frame 6, then as the walk meets it; on a sound block 1 or 0 by the list
+  -- the two searches and the two ends: 6 for the frame, then by what the walk meets; on a sound block 1 or 0 by the list
   search-unframed : {t : Tag} {s : Slices} → Unframed s → Due (search t) s 6
   search-walked : {t : Tag} {s : Slices} {n : ℕ} → Fitting s → Gives (frame (s .words)) (s .words) (s .keys) t Exact n → Due (search t) s n
   search-missing : {t : Tag} {s : Slices} (z : Sound (s .words) (s .keys)) → find exact t (holds z) ≡ none → Due (search t) s 1
@@ -107,7 +107,7 @@ pub data Due : Call → Slices → ℕ → Type 0 where
   maximum-walked : {s : Slices} {n : ℕ} → Fitting s → Ends (frame (s .words)) (s .words) (s .keys) High n → Due maximum s n
   maximum-missing : {s : Slices} (z : Sound (s .words) (s .keys)) → last-of (holds z) ≡ none → Due maximum s 1
   maximum-found : {s : Slices} (z : Sound (s .words) (s .keys)) (h : Held) → last-of (holds z) ≡ some h → Due maximum s 0
-  -- next leaf and leaf facts: frame 6, 9, the leaf's own rule 6
+  -- next leaf and leaf facts: 6 for the frame, 9 for the number, 6 for the leaf
   next-unframed : {n : ℕ} {s : Slices} → Unframed s → Due (next-leaf n) s 6
   next-outside : {n : ℕ} {s : Slices} → Fitting s → inPool (frame (s .words)) (leaf-place n) ≡ false → Due (next-leaf n) s 9
   next-free : {n : ℕ} {s : Slices} → Fitting s → inPool (frame (s .words)) (leaf-place n) ≡ true

@@ -100,17 +100,17 @@ totals [] = []
 totals (e ∷ l) = (e .0, e .1 .total) ∷ totals l
 
 -- an accepted start empties the list, an accepted insert puts a tag in or changes its total, an accepted delete leaves it out
-abbrev pub told : Listing ℕ → Change → Listing ℕ
-told l fresh = []
-told l (puts tag total) = put tag total l
-told l (alters tag total) = alter (λ x. some total) tag l
-told l (leaves tag) = leave tag l
-told l nothing = l
+abbrev pub amended : Listing ℕ → Change → Listing ℕ
+amended l fresh = []
+amended l (puts tag total) = put tag total l
+amended l (alters tag total) = alter (λ x. some total) tag l
+amended l (leaves tag) = leave tag l
+amended l nothing = l
 
 -- call by call, each on the block that the calls before it left
-abbrev pub told-all : Block → Listing ℕ → List Turn → Listing ℕ
-told-all b l [] = l
-told-all b l (t ∷ ts) = told-all (next b t) (told l (changeOf (t .call) (lent b t))) ts
+abbrev pub amended-all : Block → Listing ℕ → List Turn → Listing ℕ
+amended-all b l [] = l
+amended-all b l (t ∷ ts) = amended-all (next b t) (amended l (changeOf (t .call) (lent b t))) ts
 
 -- accepted new inserts, and accepted deletes, since the last accepted start
 pub record Tally : Type 0 where

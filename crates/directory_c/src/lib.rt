@@ -249,7 +249,7 @@ pub extern "C" fn directory_first_at_or_after(
 ) -> DirectoryFound
     ensures { λ r. ⌜ seen r (now (words .entry)) (now (keys .entry)) (now (scratch .exit)) ≡ seenIn foundIn (run (calls.first-at-or-after (now (tag .entry))) (lent (now (words .entry)) (now (keys .entry)) (now (scratch .entry)))) ⌝ }
 {
-    after_found(range::first_at_or_after(scratch, words, keys, tag))
+    after_found(range::first_at_or_after(words, keys, scratch, tag))
 }
 
 fn changed(number: u32, total: u64) -> DirectoryChanged

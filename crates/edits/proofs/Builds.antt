@@ -57,7 +57,7 @@ module _ (form : Form) (kind : ℕ) (w : List ℕ) (n h e : ℕ) (zeros : w ≡ 
       ∙ head-left form eight kind m p z body (omega (arith, length-replicate {A = ℕ} (header form) 0))
       ∙ ap₂ (λ (k : ℕ) (l : List ℕ). setHead form kind k p z ++ l) (many ∙ sym (filled-length 0 places)) b
 
--- ---- kind 4: the table of a table's own row is the table
+-- ── kind 4: the table of a table's own row is the table ──
 tab-is : (l : List ℕ) (b : ℕ) (g : ℕ → ℕ) → ((i : ℕ) → i < length l → g (b + i) ≡ getD l i 0) → tab (length l) b g ≡ l
 tab-is [] b g e = refl
 tab-is (x ∷ xs) b g e =

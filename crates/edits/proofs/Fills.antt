@@ -34,7 +34,7 @@ Under b row = all (λ x. ltb x b) (bytesOf row) ≡ true
 abbrev next : ℕ → ℕ
 next s = choose (eqb s 0) 0 (suc s)
 
--- ---- the columns
+-- ── the columns ──
 bytes-more : (row : Pairs) (b r : ℕ) → bytesOf (more row b r) ≡ bytesOf row ++ (b ∷ [])
 bytes-more [] b r = refl
 bytes-more (e ∷ es) b r = ap (λ (l : List ℕ). e .0 ∷ l) (bytes-more es b r)
@@ -43,7 +43,7 @@ refs-more : (row : Pairs) (b r : ℕ) → refsOf (more row b r) ≡ refsOf row +
 refs-more [] b r = refl
 refs-more (e ∷ es) b r = ap (λ (l : List ℕ). e .1 ∷ l) (refs-more es b r)
 
--- ---- the reference and the slot for a byte
+-- ── the reference and the slot for a byte ──
 ref-more : (row : Pairs) (b r j : ℕ) → Under b row → refFor j (more row b r) ≡ choose (eqb b j) r (refFor j row)
 ref-more [] b r j u = go (eqb b j)
   where
@@ -78,7 +78,7 @@ slot-more (e ∷ es) b r j u =
     go true q l ih = let w : e .0 ≡ j = eqb-true _ _ q in ap (λ (t : Bool). choose t (suc (length es) + 1) 1) (sym (ne-eqb b j (λ z. omega arith)))
     go false q l ih = later (eqb b j) (slotFor j (more es b r)) ih
 
--- ---- a table with one number changed
+-- ── a table with one number changed ──
 tab-put : (m b i v : ℕ) (g h : ℕ → ℕ) → h (b + i) ≡ v → ((j : ℕ) → (j ≡ b + i → ⊥) → h j ≡ g j) → tab m b h ≡ set (tab m b g) i v
 tab-put zero b i v g h e o = refl
 tab-put (suc m) b zero v g h e o =
@@ -94,7 +94,7 @@ tab-more b v g h e =
     tab-put 256 0 b v g h (ap h q ∙ e b ∙ ap (λ (t : Bool). choose t v (g b)) (eq-eqb b b refl))
     (λ j d. e j ∙ ap (λ (t : Bool). choose t v (g j)) (ne-eqb b j (λ z. d (omega arith))))
 
--- ---- the table of a row, and its bodies
+-- ── the table of a row, and its bodies ──
 pub spread-more : (row : Pairs) (b r : ℕ) → Under b row → rowSpread (more row b r) ≡ set (rowSpread row) b r
 spread-more row b r u = tab-more b r (λ j. refFor j row) (λ j. refFor j (more row b r)) (λ j. ref-more row b r j u)
 
@@ -145,7 +145,7 @@ pub slots-none : replicate 304 0 ≡ slotBody []
 unfolding slotBody
 slots-none = refl
 
--- ---- the loop over 256 places
+-- ── the loop over 256 places ──
 filled-end : (b : ℕ) (l : List ℕ) (r : ℕ) → filled b (l ++ (r ∷ [])) ≡ filled b l ++ filled (b + length l) (r ∷ [])
 filled-end b [] r = ap (λ (n : ℕ). filled n (r ∷ [])) (let q : b ≡ b + 0 = omega arith in q)
 filled-end b (x ∷ xs) r = go (eqb x 0) (filled-end (suc b) xs r ∙ ap (λ (n : ℕ). filled (suc b) xs ++ filled n (r ∷ [])) (let q : suc b + length xs ≡ b + suc (length xs) = omega arith in q))

@@ -39,7 +39,7 @@ shown n p row = inner-cell n (held p) (places row)
 pub inner-own : {form : Form} {kind : ℕ} {rec : List ℕ} → InnerFits form kind rec → Inner form kind rec (prefixAt form rec) (rowAt form kind rec)
 inner-own w = record { fits = w; prefix = refl; shows = refl }
 
--- ---- what it says of the record's words
+-- ── what it says of the record's words ──
 module _ {form : Form} {kind : ℕ} {rec : List ℕ} {p : Prefix} {row : Row} (i : Inner form kind rec p row) where
   rule : InnerRule form kind rec
   rule = inner-rule form kind rec (i .fits .ok)
@@ -84,7 +84,7 @@ module _ {form : Form} {kind : ℕ} {rec : List ℕ} {p : Prefix} {row : Row} (i
   unfolding spreadOf
   spread-of = (spread-length-is inner-holds, spread-shows inner-holds, spread-count inner-holds ∙ sym inner-size)
 
--- ---- a record from its head and its body
+-- ── a record from its head and its body ──
 pub record Head (form : Form) (rec : List ℕ) (kind n : ℕ) (p : Prefix) : Type 0 where
   pub first : getD rec 0 0 ≡ kind
   pub second : getD rec 1 0 ≡ n
@@ -137,7 +137,7 @@ unfolding prefixAt
 prefix-of form rec p h full stored =
     ap₂ (λ (n : ℕ) (l : List ℕ). record { full = record { 0 = n }; stored = l }) full (stored-part form rec h ∙ stored)
 
--- ---- another body and child count
+-- ── another body and child count ──
 module _ (form : Form) (eight : form .prefix ≡ 8) (kind : ℕ) (rec body : List ℕ) (m : ℕ) (long : length rec ≡ recordWords form kind) (size : length body ≡ bodyWords kind) where
   abbrev base : List ℕ
   base = withBody form kind rec body
@@ -192,7 +192,7 @@ module _ {form : Form} (eight : form .prefix ≡ 8) {kind : ℕ} {rec : List ℕ
       with-body (bodyChange kind (bodyPart form kind rec) (getD rec 1 0) b change) (countIn change (getD rec 1 0)) (rowChange b change row)
       (subst (λ (n : ℕ). 2 ≤ countIn change n) (inner-size i) two) (holds-change (inner-holds i) b low change takes)
 
--- ---- another prefix
+-- ── another prefix ──
 module _ (form : Form) (p : Prefix) (rec : List ℕ) (eight : length (p .stored) ≡ 8) (long : 3 + form .counts + 8 ≤ length rec) where
   abbrev full : List ℕ
   full = set rec 2 (p .full .0)
@@ -240,7 +240,7 @@ prefix-inner {form} eight {kind} {rec} {q} {row} i p f =
     (record { first = head .first ∙ inner-kind i; second = head .second; prefix = head .prefix }) f (omega (arith, inner-two i, inner-size i))
     (prefix-after form p rec (f .eight) room (header form) (recordWords form kind) (omega arith)) (inner-holds i)
 
--- ---- a record built from a prefix and a row
+-- ── a record built from a prefix and a row ──
 module _ (form : Form) (eight : form .prefix ≡ 8) (kind : ℕ) (p : Prefix) (f : PrefixFits form p) (n : ℕ) where
   abbrev start : List ℕ
   start = set (set (replicate (header form) 0) 0 kind) 1 n
@@ -291,7 +291,7 @@ build-inner form eight kind p row low high f two few c =
     ∙ between-middle head body [] (header form) (recordWords form kind) hl (h .fits .long ∙ omega arith))
     h
 
--- ---- a record moved to another kind, with its children in byte order
+-- ── a record moved to another kind, with its children in byte order ──
 pub move-inner : {form : Form} → form .prefix ≡ 8 → {kind : ℕ} {rec : List ℕ} {p : Prefix} {row : Row} → Inner form kind rec p row → (to : ℕ) → 1 ≤ to → to ≤ 4
     → length row ≤ childrenOf to → Inner form to (buildRec form to p (directRow (spreadOf form kind rec))) p row
 move-inner {form} eight {kind} {rec} {p} {row} i to low high few =

@@ -30,7 +30,7 @@ refs-later b e es n = ap (λ (t : Bool). choose t (e .1) (refFor b es)) (ne-eqb 
 not-front : (b : ℕ) (e : ℕ × ℕ) (es : Row) → 0 < e .1 → refFor b (e ∷ es) ≡ 0 → b ≡ e .0 → ⊥
 not-front b e es h z q = omega (arith, ap (λ (t : Bool). choose t (e .1) (refFor b es)) (eq-eqb (e .0) b (sym q)))
 
--- ---- one more
+-- ── one more ──
 module _ (b r : ℕ) where
   -- by where b stands to the front child's byte; it is not that byte
   pub by-order : (P : Row → Type 0) (e : ℕ × ℕ) (es : Row) → 0 < e .1 → refFor b (e ∷ es) ≡ 0
@@ -80,7 +80,7 @@ module _ (x t y u : ℕ) (n : x ≡ y → ⊥) where
       let z : refFor x ((y, u) ∷ []) ≡ 0 = refs-later x (y, u) [] n in
       (insert-length x t 0 ((y, u) ∷ []) c z, insert-climbs x t 0 ((y, u) ∷ []) (omega arith) xl ts c z)
 
--- ---- one less
+-- ── one less ──
 module _ (b : ℕ) where
   pub remove-length : (row : Row) → 0 < refFor b row → suc (length (rowRemove b row)) ≡ length row
   remove-length [] h = absurd (omega arith)
@@ -107,7 +107,7 @@ module _ (b : ℕ) where
       go (yes q) ih = refl
       go (no n) ih = ap (λ (l : List (ℕ × Place)). (e .0, placeAt (e .1)) ∷ l) ih
 
--- ---- another reference
+-- ── another reference ──
 module _ (b r : ℕ) where
   pub replace-length : (row : Row) → length (rowReplace b r row) ≡ length row
   replace-length [] = refl
@@ -134,13 +134,13 @@ module _ (b r : ℕ) where
       go (yes q) ih = refl
       go (no n) ih = ap (λ (l : List (ℕ × Place)). (e .0, placeAt (e .1)) ∷ l) ih
 
--- ---- by the change
+-- ── by the change ──
 pub change-places : (b : ℕ) (change : Change) (row : Row) → places (rowChange b change row) ≡ refsChange b change (places row)
 change-places b (Add r) row = insert-places b r row
 change-places b Remove row = remove-places b row
 change-places b (Replace r) row = replace-places b r row
 
--- ---- a table with another reference for b: one change f of its row, that goes past the bytes below b, and is right where b is in front
+-- ── a table with another reference for b: one change f of its row, that goes past the bytes below b, and is right where b is in front ──
 module _ (f : Row → Row) (b was now : ℕ) (past : (e : ℕ × ℕ) (es : Row) → e .0 < b → f (e ∷ es) ≡ e ∷ f es)
     (here : (rs : List ℕ) → b + length rs < 256 → filled b (now ∷ rs) ≡ f (filled b (was ∷ rs))) where
   table-set : (a i : ℕ) (l : List ℕ) → a + i ≡ b → i < length l → a + length l ≤ 256 → getD l i 0 ≡ was → filled a (set l i now) ≡ f (filled a l)

@@ -37,7 +37,7 @@ use Rattle.edits.proofs.TableBodies.{tab-all, spread-row}
 abbrev bit : Bool → ℕ
 bit b = choose b 1 0
 
--- ---- counts after one element was written
+-- ── counts after one element was written ──
 count-set : (p : ℕ → Bool) (l : List ℕ) (i x : ℕ) → i < length l → count p (set l i x) + bit (p (getD l i 0)) ≡ count p l + bit (p x)
 count-set p [] i x h = absurd (omega arith)
 count-set p (y ∷ ys) zero x h = go (p x) (p y)
@@ -71,7 +71,7 @@ indirect-shown body n row slots refs long es er low many names e =
       shows = ap₂ (λ (x y : List ℕ). filled 0 (spread y x)) es er ∙ e;
     }
 
--- ---- one change: byte b's slot number was that of place j, or 0 where j was empty (p), and becomes so again (q), with y at the place
+-- ── one change: byte b's slot number was that of place j, or 0 where j was empty (p), and becomes so again (q), with y at the place ──
 record SlotWrite (slots refs : List ℕ) (b j x y : ℕ) (p q : Bool) : Type 0 where
   s256 : length slots ≡ 256
   r48 : length refs ≡ 48
@@ -165,7 +165,7 @@ module _ {slots refs : List ℕ} {b j x y : ℕ} {p q : Bool} (c : SlotWrite slo
           ∙ sym (spread-at refs slots i)
           ∙ sym (getD-set-other (spread refs slots) b i y 0 n)
 
--- ---- the three changes
+-- ── the three changes ──
 module _ (body : List ℕ) (n : ℕ) (row : Row) (s : Indirect body n row) (few : n ≤ 48) (b : ℕ) (bl : b < 256) (child : indirectChild body b ≡ refFor b row) where
   abbrev slots : List ℕ
   slots = between body 0 256
@@ -285,7 +285,7 @@ module _ (body : List ℕ) (n : ℕ) (row : Row) (s : Indirect body n row) (few 
   indirect-change Remove size t = indirect-remove t
   indirect-change (Replace r) size t = indirect-replace r (t .0) (t .1)
 
--- ---- the body built from a row
+-- ── the body built from a row ──
 -- one more, where there is a slot number
 abbrev shift : ℕ → ℕ
 shift s = choose (eqb s 0) 0 (suc s)

@@ -43,7 +43,7 @@ refs-col : (row : Row) → refsOf row ≡ col (λ e. e .1) row
 refs-col [] = refl
 refs-col (e ∷ es) = ap (λ (l : List ℕ). e .1 ∷ l) (refs-col es)
 
--- ---- the body built from a row
+-- ── the body built from a row ──
 beside-row : (row : Row) → beside (bytesOf row) (refsOf row) ≡ row
 beside-row [] = refl
 beside-row (e ∷ es) = ap (λ (l : Row). e ∷ l) (beside-row es)
@@ -121,7 +121,7 @@ module _ (k : ℕ) (row : Row) (n : ℕ) (size : length row ≡ n) (few : n ≤ 
         shows = ap₂ beside used-keys used-refs ∙ beside-row row;
       }
 
--- ---- a body that obeys the rule is built from its row
+-- ── a body that obeys the rule is built from its row ──
 beside-columns : (ks rs : List ℕ) → length ks ≡ length rs → (bytesOf (beside ks rs) ≡ ks) × (refsOf (beside ks rs) ≡ rs)
 beside-columns [] [] h = (refl, refl)
 beside-columns [] (r ∷ rs) h = absurd (omega arith)
@@ -156,7 +156,7 @@ sorted-canon k body n long few ok =
     ∙ sym (between-join body 0 k (k + k) (omega arith) (omega arith))
     ∙ ap₂ _++_ (left ∙ ap (padded k) (sym (cols .0))) (right ∙ ap (padded k) (sym (cols .1)))
 
--- ---- what a change of a list is to its columns
+-- ── what a change of a list is to its columns ──
 push-0 : (m : ℕ) → pushIn 0 (zeros m) ≡ zeros m
 push-0 zero = refl
 push-0 (suc m) = ap (λ (l : List ℕ). 0 ∷ l) (push-0 m)
@@ -221,7 +221,7 @@ module _ (b r : ℕ) where
           ap (λ (t : Bool). set (refsOf (e ∷ es) ++ z) (choose t 0 (suc (first (is b) (bytesOf es)))) r) (ne-eqb (e .0) b (λ q. n (sym q)))
           ∙ ap (λ (l : List ℕ). e .1 ∷ l) (ih (omega (arith, refs-later b e es n)))
 
--- ---- a column padded to k places
+-- ── a column padded to k places ──
 col-length : (g : ℕ × ℕ → ℕ) (row : Row) → length (col g row) ≡ length row
 col-length g [] = refl
 col-length g (e ∷ es) = ap suc (col-length g es)
@@ -244,7 +244,7 @@ module _ (g : ℕ × ℕ → ℕ) (k : ℕ) where
       let m = k - length row in
       ap (shiftOut (first (is b) (bytesOf row))) (pad-by m row refl) ∙ col-out g b row m h ∙ sym (pad-by (suc m) (rowRemove b row) (omega (arith, remove-length b row h)))
 
--- ---- the three changes
+-- ── the three changes ──
 module _ (k : ℕ) (body : List ℕ) (n : ℕ) (row : Row) (s : Sorted k body n row) (few : n ≤ k) (size : length row ≡ n) (c : Climbs 0 row) where
   canon : body ≡ sortedBody k row
   canon = sorted-canon k body n (s .long) few (s .ok) ∙ ap (sortedBody k) (s .shows)

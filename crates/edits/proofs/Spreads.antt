@@ -22,7 +22,7 @@ use Rattle.edits.proofs.Fills.{more, Under, spread-more}
 abbrev Pairs : Type 0
 Pairs = List (ℕ × ℕ)
 
--- ---- kinds 1 and 2: after i turns it is the table of the first i children
+-- ── kinds 1 and 2: after i turns it is the table of the first i children ──
 beside-more : (ks rs : List ℕ) (k r : ℕ) → length ks ≡ length rs → beside (ks ++ (k ∷ [])) (rs ++ (r ∷ [])) ≡ more (beside ks rs) k r
 beside-more [] [] k r h = refl
 beside-more [] (y ∷ ys) k r h = absurd (omega arith)
@@ -84,7 +84,7 @@ module _ (k : ℕ) (body : List ℕ) (n : ℕ) (few : n ≤ k) (long : length bo
       ∙ ap rowSpread (beside-more (between body 0 i) (between body k (k + i)) (getD body i 0) (getD body (k + i) 0) (same-long i h))
       ∙ spread-more (sortedRow k body i) (getD body i 0) (getD body (k + i) 0) (row-under i h)
 
--- ---- kind 3: each byte has the reference that its slot names
+-- ── kind 3: each byte has the reference that its slot names ──
 pub slot-spread-long : (body : List ℕ) → length body ≡ 304 → length (slotSpread body) ≡ 256
 unfolding slotSpread
 slot-spread-long body h = spread-length (between body 256 304) (between body 0 256) ∙ between-length body 0 256 (omega arith) (omega arith)

@@ -22,12 +22,12 @@ use Rattle.edits.proofs.Columns.{tab-as, tab-length}
 use Rattle.edits.proofs.RowChanges.{insert-length, remove-length, replace-length, table-insert, table-remove, table-replace}
 use Rattle.edits.proofs.Shown.{Direct}
 
--- ---- g of each number
+-- ── g of each number ──
 pub tab-all : (p : ℕ → Bool) (m b : ℕ) (g : ℕ → ℕ) → ((i : ℕ) → p (g i) ≡ true) → all p (tab m b g) ≡ true
 tab-all p zero b g h = refl
 tab-all p (suc m) b g h = and-both (h b) (tab-all p m (suc b) g h)
 
--- ---- the table of a row
+-- ── the table of a row ──
 tab-row : (m b : ℕ) (row : Row) → b + m ≡ 256 → Climbs b row → filled b (tab m b (λ i. refFor i row)) ≡ row
 tab-row zero b [] e c = refl
 tab-row zero b (x ∷ row) e c = absurd (omega (arith, c .0 .low, c .0 .byte))
@@ -55,7 +55,7 @@ tab-row (suc m) b (x ∷ row) e c = go (eqb (x .0) b) refl (tab-row m (suc b) (x
 pub spread-row : (row : Row) → Climbs 0 row → directRow (rowSpread row) ≡ row
 spread-row row c = tab-row 256 0 row refl c
 
--- ---- kind 4
+-- ── kind 4 ──
 -- any table with this row
 pub direct-shown : (body : List ℕ) (n : ℕ) (row : Row) → length body ≡ 256 → directRow body ≡ row → length row ≡ n → Direct body n row
 unfolding directOk

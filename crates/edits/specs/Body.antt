@@ -103,7 +103,7 @@ abbrev pub slotFor : ℕ → List (ℕ × ℕ) → ℕ
 slotFor b [] = 0
 slotFor b (e ∷ es) = choose (eqb (e .0) b) 1 (choose (eqb (slotFor b es) 0) 0 (suc (slotFor b es)))
 
--- key bytes ascending, then references in the same order
+-- the bytes in ascending order, and after them the references, each in its byte's place
 unfoldable pub sortedBody : ℕ → List (ℕ × ℕ) → List ℕ
 sortedBody k row = padded k (bytesOf row) ++ padded k (refsOf row)
 

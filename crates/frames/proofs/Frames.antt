@@ -24,7 +24,7 @@ caps-small c e =
     let p = both5 (leb (c .c1) 4096) (leb (c .c2) 4096) (leb (c .c3) 4096) (leb (c .c4) 4096) (leb (c .c5) 4096) e in
     record { s1 = leb-true _ _ (p .0); s2 = leb-true _ _ (p .1); s3 = leb-true _ _ (p .2); s4 = leb-true _ _ (p .3); s5 = leb-true _ _ (p .4) }
 
--- ---- the trailer's test, by its two ways
+-- ── the trailer's test, by its two ways ──
 module _ (t : List ℕ) (n k : ℕ) (known small : Bool) (c : Caps) (a : known ≡ formKnown (getD t 0 0)) (b : c ≡ capsOf t) (d : small ≡ capsSmall c) where
   tested : (v : Bool) → known && small ≡ v → formKnown (getD t 0 0) && capsSmall (capsOf t) ≡ v
   tested v e = ap (λ (x : Bool). x && capsSmall (capsOf t)) (sym a) ∙ ap (λ (x : Bool). known && x) (ap capsSmall (sym b) ∙ sym d) ∙ e

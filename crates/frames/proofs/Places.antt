@@ -78,7 +78,7 @@ module _ {f : Frame} {words keys : List ℕ} (w : FrameOf f words keys) where
       let a = n * f .form .limit in
       between-length keys a (a + f .form .limit) (omega arith) (omega arith) ∙ omega arith
 
--- ---- the same read from the trailer: the capacity c, and the distance back
+-- ── the same read from the trailer: the capacity c, and the distance back ──
 module _ {f : Frame} {words keys : List ℕ} (w : FrameOf f words keys) (ref : ℕ) where
   pub pool-trailer : (c : ℕ) → c ≡ getD (trailerOf words) (5 + ref % 8) 0 → leb 1 (ref % 8) && leb (ref % 8) 5 && ltb (ref / 8) c ≡ inPool f (placeAt ref)
   pool-trailer c e =
@@ -97,7 +97,7 @@ module _ {f : Frame} {words keys : List ℕ} (w : FrameOf f words keys) (ref : �
     pub start-trailer : length words - 16 - back + ref / 8 * getD (f .sizes) (ref % 8) 0 ≡ startAt f (placeAt ref)
     start-trailer = ap (λ (a : ℕ). a + ref / 8 * getD (f .sizes) (ref % 8) 0) (back-within .1) ∙ start-by f ref
 
--- ---- references and places name each other
+-- ── references and places name each other ──
 pub ref-place : (ref : ℕ) → refOf (placeAt ref) ≡ ref
 ref-place ref = go (eqb (ref % 8) 5) refl
   where

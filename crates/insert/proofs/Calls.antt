@@ -46,7 +46,7 @@ use Rattle.insert.specs.declared.plan.Plan.{Plan}
 use Rattle.insert.specs.declared.plan.Plan.the-variants.{Over, New, Clash, NoLeaf, NoRecord, Broken}
 use Rattle.insert.proofs.Ready.{insert-ready}
 
--- ---- a plan that overwrites names a leaf of the pool, since its point is at one
+-- ── a plan that overwrites names a leaf of the pool, since its point is at one ──
 module _ (f : Frame) (words keys tag : List ℕ) {leaf : ℕ} where
   new-makes : (site : Site) (n : ℕ) (a : After) → newPlan f words site n a ≡ Over leaf → ⊥
   new-makes site n (after.Leaf m total) e = let z : _≡_ {A = ℕ} 0 1 = cc in absurd (omega arith)
@@ -83,7 +83,7 @@ module _ (f : Frame) (words keys tag : List ℕ) {leaf : ℕ} where
       go true e = absurd (leaf-makes (At Root) e)
       go false e = point-over (pointOf f words keys tag (rootWord words)) h e
 
--- ---- a plan for a sound block is ready
+-- ── a plan for a sound block is ready ──
 -- a frame that fits is of form 1
 limit-one : (words keys : List ℕ) → frameFits words keys ≡ true → formOf 1 .limit ≡ frame words .form .limit
 unfolding frameOf
@@ -110,7 +110,7 @@ plan-ready {f} {words} {keys} w s tag b k l {p} e =
     (ready-by (record { read = refl; fits = s .fits }) s tag b k (omega (arith, l, limit-one words keys (s .fits))) p
     (sym (e ∙ ap (λ (g : Frame). planOf g words keys tag) (w .read))))
 
--- ---- the plan carried out
+-- ── the plan carried out ──
 module _ (f : Frame) (words keys scratch tag : List ℕ) (total : ℕ) where
   pub over-by : {leaf : ℕ} {a : Inserted} {w : List ℕ} {p : Plan} → p ≡ Over leaf → a ≡ inserted.Over (totalOf (recordAt f words (leaf-place (leaf / 8))))
       → w ≡ totalAt f (leaf / 8) total words → call.out a w keys scratch ≡ call.planned f words keys scratch tag total p
@@ -134,7 +134,7 @@ module _ (f : Frame) (words keys scratch tag : List ℕ) (total : ℕ) where
       ∙ ap (call.planned f words keys scratch tag total) e
       ∙ ap (λ (g : Frame). call.planned g words keys scratch tag total (planOf g words keys tag)) (w .read)
 
--- ---- the call
+-- ── the call ──
 module _ (words keys scratch tag : List ℕ) (total : ℕ) where
   abbrev by-length : Bool → call.Out
   by-length b = choose b (call.out inserted.TooLong words keys scratch) (call.insertChecked words keys tag total (check.checkOf words keys scratch))

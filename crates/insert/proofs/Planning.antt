@@ -26,7 +26,7 @@ use Rattle.insert.specs.declared.plan.Choice.the-variants.{At}
 use Rattle.insert.specs.declared.plan.Plan.{Plan}
 use Rattle.insert.specs.declared.plan.Plan.the-variants.{NoLeaf}
 
--- ---- a free record is one of a pool
+-- ── a free record is one of a pool ──
 module _ (f : Frame) (words : List ℕ) {k n : ℕ} where
   pick-in : (kind more : ℕ) → (freeFrom f words (kind + 1) more ≡ free.At k n → (k < kind + 1 + more) × (n < getD (f .caps) k 0))
       → (b : Bool) → ltb (lowestFree f words kind) (getD (f .caps) kind 0) ≡ b → choose b (free.At kind (lowestFree f words kind)) (freeFrom f words (kind + 1) more) ≡ free.At k n
@@ -57,7 +57,7 @@ free-small {f} {words} {k = k} w kind h e q =
     let m = caps-most (framed w) k (omega (arith, u .0)) in
     (omega (arith, u .0), omega (arith, u .1))
 
--- ---- the record that takes the new leaf
+-- ── the record that takes the new leaf ──
 module _ (f : Frame) (words : List ℕ) (up : Up) (ref byte : ℕ) {b : Bool} (e : b ≡ ltb (getD (recordAt f words (placeAt ref)) 1 0) (childrenOf (ref % 8))) where
   into-by : {v : Bool} → b ≡ v
       → choose v (At (Add ref byte)) (growChoice up ref byte (freeKind f words (suc (ref % 8)))) ≡ intoChoice f words up ref byte
@@ -76,7 +76,7 @@ pub fork-by : (f : Frame) (words : List ℕ) (up : Up) (ref leaf d c : ℕ) {x y
 unfolding forkChoice
 fork-by f words up ref leaf d c q p = ap (forkWith up ref leaf d c) (sym p ∙ q)
 
--- ---- the leaf, where there is a free one
+-- ── the leaf, where there is a free one ──
 module _ (f : Frame) (words keys tag : List ℕ) (choice : Choice) {n : ℕ} (e : n ≡ lowestFree f words 5) where
   leaf-by : {v : Bool} → ltb n (getD (f .caps) 5 0) ≡ v → choose v (sitePlan f words keys tag n choice) NoLeaf ≡ leafPlan f words keys tag choice
   unfolding leafPlan
@@ -90,7 +90,7 @@ module _ (f : Frame) (words keys tag : List ℕ) (choice : Choice) {n : ℕ} (e 
   pub leaf-none : getD (f .caps) 5 0 ≤ n → NoLeaf ≡ leafPlan f words keys tag choice
   leaf-none h = leaf-by (le-ltb n (getD (f .caps) 5 0) h)
 
--- ---- the plan
+-- ── the plan ──
 module _ (f : Frame) (words keys tag : List ℕ) {root : ℕ} (e : root ≡ rootWord words) where
   abbrev by-root : Bool → ℕ → Plan
   by-root b r = choose b (leafPlan f words keys tag (At Root)) (pointPlan f words keys tag (pointOf f words keys tag r))

@@ -29,7 +29,7 @@ use Rattle.delete.specs.Meets as delete-meets
 use Rattle.delete.specs.declared.answer.Deleted.the-variants as deleted
 use Rattle.demands.specs.Calls as calls
 use Rattle.demands.specs.Calls.{Outcome, outcome, Promise, run}
-use Rattle.demands.specs.Histories.{Block, Turn, answered, next, after-all, puts, totals, told}
+use Rattle.demands.specs.Histories.{Block, Turn, answered, next, after-all, puts, totals, amended}
 use Rattle.demands.specs.Drawn.{drawing}
 use Rattle.demands.specs.Accepts.{insert, delete, turn}
 use Rattle.demands.specs.Listed.{InsertsListed}
@@ -151,7 +151,7 @@ put-sound : (s : Sound (three .words) (three .keys)) × (totals (held (s .tree))
 unfolding opened
 put-sound =
     let z = step-sound room room-sound room-bytes (turn (insert C 9) (replicate 5 1)) (tag-bytes C refl) in
-    (z .0, z .1 ∙ ap (λ (l : Listing Held). told (totals l) (puts C 9)) room-holds)
+    (z .0, z .1 ∙ ap (λ (l : Listing Held). amended (totals l) (puts C 9)) room-holds)
 
 -- and key bytes below 256
 put-bytes : Bytes (three .keys)

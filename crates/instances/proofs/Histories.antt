@@ -9,7 +9,7 @@ use Rattle.pools.specs.declared.start.Started.the-variants.{Done}
 use Rattle.reading.specs.Answers.{Bytes}
 use Rattle.pointed.proofs.Points.{tag-bytes}
 use Rattle.demands.specs.Calls.{Call, start, insert, delete}
-use Rattle.demands.specs.Histories.{Block, Turn, next, after-all, told-all, Tally, tally, counted-all, AllBytes}
+use Rattle.demands.specs.Histories.{Block, Turn, next, after-all, amended-all, Tally, tally, counted-all, AllBytes}
 use Rattle.demands.specs.Story.{Story}
 use Rattle.demands.proofs.Histories.{history}
 use Rattle.instances.specs.Opened.{opened}
@@ -36,7 +36,7 @@ accepted = refl
 
 defined : List Turn → Listing ℕ × Tally
 unfolding opened
-defined ts = (told-all first [] ts, counted-all first (tally 0 0) ts)
+defined ts = (amended-all first [] ts, counted-all first (tally 0 0) ts)
 
 -- two went in and one out
 one-left : defined calls ≡ ((A, 9) ∷ [], tally 2 1)

@@ -27,11 +27,11 @@ use Rattle.leaves.specs.declared.LeafState.{LeafState}
 use Rattle.leaves.specs.declared.LeafState.the-variants.{Good, Broken, NoLeaf}
 use Rattle.tree.proofs.Arrivals.{leaf-stands, frame-in}
 
--- ---- the reference of a leaf number of the pool
+-- ── the reference of a leaf number of the pool ──
 pub ref-pooled : (f : Frame) (n : ℕ) → n < getD (f .caps) 5 0 → inPool f (placeAt (n * 8 + 5)) ≡ true
 ref-pooled f n h = ap (inPool f) (place-leaf n) ∙ lt-ltb n (getD (f .caps) 5 0) h
 
--- ---- what stands at a leaf number
+-- ── what stands at a leaf number ──
 module _ (f : Frame) (words keys : List ℕ) (n : ℕ) where
   pub state-outside : inPool f (leaf-place n) ≡ false → NoLeaf ≡ leafState f words keys n
   unfolding leafState
@@ -94,7 +94,7 @@ module _ {f : Frame} {words keys : List ℕ} (w : FrameOf f words keys) (n : ℕ
       go true p true r q e = absurd (let z : _≡_ {A = ℕ} 0 1 = cc in omega arith)
       go false p z r q e = absurd (let z : _≡_ {A = ℕ} 0 1 = cc in omega arith)
 
--- ---- the next leaf
+-- ── the next leaf ──
 module _ (f : Frame) (words : List ℕ) (ref : ℕ) where
   pub next-none : ref ≡ 0 → Missing ≡ nextOf f words ref
   unfolding nextOf
@@ -126,7 +126,7 @@ module _ (f : Frame) (words : List ℕ) (ref : ℕ) where
         next-found v =
             ap (leafFound n) (sym rec-is) ∙ simp (ap (inPool f) (sym e) ∙ p, eq-eqb _ _ (next-head ∙ v)) at (named (leaf-place n) e)
 
--- ---- the tag
+-- ── the tag ──
 module _ {f : Frame} {words keys : List ℕ} (w : FrameOf f words keys) (n : ℕ) where
   -- a tag with bytes is a good leaf's, and lies within its key bytes
   pub tag-short : 0 < tagLen f words keys n → (tagLen f words keys n ≤ f .form .limit) × (n * f .form .limit + f .form .limit ≤ length keys)
@@ -151,7 +151,7 @@ module _ {f : Frame} {words keys : List ℕ} (w : FrameOf f words keys) (n : ℕ
       sym (between-front keys a (a + len) (a + f .form .limit) (omega arith))
       ∙ ap (λ (m : ℕ). take m (keyAt f keys n)) (let q : a + len - a ≡ len = omega arith in q)
 
--- ---- each call, by what stands at the number
+-- ── each call, by what stands at the number ──
 module _ {f : Frame} {words keys : List ℕ} (w : FrameOf f words keys) (n : ℕ) where
   pub next-by : (s : LeafState) → leafState f words keys n ≡ s → nextFrom f words n s ≡ nextLeafOf words keys n
   next-by s e = ap (nextFrom f words n) (sym e) ∙ frame-in words keys (λ f. nextFrom f words n (leafState f words keys n)) Damaged w

@@ -44,7 +44,7 @@ nextFrom f words n (Good start) = nextOf f words (nextLeaf (recordAt f words (le
 nextFrom f words n Broken = found.Damaged
 nextFrom f words n NoLeaf = found.NoLeaf
 
--- frame 6, 9, the leaf's own rule 6, then by its next
+-- 6 for the frame, 9 for the number, 6 for the leaf, then by its next
 abbrev pub nextLeafOf : List ℕ → List ℕ → ℕ → Found
 nextLeafOf words keys n = withFrame words keys (λ f. nextFrom f words n (leafState f words keys n)) found.Damaged
 
@@ -55,7 +55,7 @@ factsFrom rec (Good start) = factsHere rec
 factsFrom rec Broken = facts.Damaged
 factsFrom rec NoLeaf = facts.NoLeaf
 
--- frame 6, 9, the leaf's own rule 6
+-- 6 for the frame, 9 for the number, 6 for the leaf
 abbrev pub factsOf : List ℕ → List ℕ → ℕ → Facts
 factsOf words keys n = withFrame words keys (λ f. factsFrom (recordAt f words (leaf-place n)) (leafState f words keys n)) facts.Damaged
 

@@ -129,7 +129,7 @@ fn tag_len(words: &[u32], keys: &[u8], f: Frame, number: u32) -> usize
     }
 }
 
-// A leaf's tag, as a part of the lent key bytes; empty on a refusal.
+// A leaf's tag, as it stands in the key bytes; nothing on a refusal.
 pub fn leaf_tag<'a>(words: &[u32], keys: &'a [u8], number: u32) -> &'a [u8]
     ensures { λ r. ⌜ now r ≡ tagOf (now (words .entry)) (now (keys .entry)) number ⌝ }
 {

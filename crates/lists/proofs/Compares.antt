@@ -47,7 +47,7 @@ module _ {s t : List ℕ} {i : ℕ} (r : Shared s t i) where
   pub shared-out : length t ≤ i → i ≡ shared s t
   shared-out h = omega (arith, ap (shared (drop i s)) (drop-of-length-le t h) ∙ shared-nil (drop i s))
 
--- ---- what the shared beginning is
+-- ── what the shared beginning is ──
 pub shared-le : (s t : List ℕ) → (shared s t ≤ length s) × (shared s t ≤ length t)
 shared-le [] t = (omega arith, omega arith)
 shared-le (x ∷ xs) [] = (omega arith, omega arith)
@@ -135,7 +135,7 @@ pub shared-self : (s : List ℕ) → shared s s ≡ length s
 shared-self [] = refl
 shared-self (x ∷ xs) = ap (λ (b : Bool). choose b (suc (shared xs xs)) 0) (eq-eqb x x refl) ∙ ap suc (shared-self xs)
 
--- ---- the same
+-- ── the same ──
 pub same-shared : (s t : List ℕ) → same s t ≡ eqb (shared s t) (length s) && eqb (shared s t) (length t)
 same-shared [] [] = refl
 same-shared [] (y ∷ ys) = sym (eqb·zero-suc (length ys))
@@ -227,7 +227,7 @@ ne-same s t d = go (same s t) refl
     go true e = absurd (d (same-eq s t e))
     go false e = refl
 
--- ---- before, by what both share
+-- ── before, by what both share ──
 pub less-out : (s t : List ℕ) → shared s t ≡ length t → less s t ≡ false
 less-out s [] h = refl
 less-out [] (y ∷ ys) h = absurd (omega arith)
@@ -259,7 +259,7 @@ less-at (x ∷ xs) (y ∷ ys) h k = go (eqb x y) refl (less-at xs ys) h k
     go true e ih h k = ap (λ (c : Bool). c || less xs ys) (le-ltb x y (omega (arith, eqb-true x y e))) ∙ ih (omega arith) (omega arith)
     go false e ih h k = or-false (ltb x y)
 
--- ---- before, element by element, and as an order
+-- ── before, element by element, and as an order ──
 module _ (x y : ℕ) (xs ys : List ℕ) where
   pub less-low : x < y → less (x ∷ xs) (y ∷ ys) ≡ true
   less-low h = ap (λ (c : Bool). c || (eqb x y && less xs ys)) (lt-ltb x y h)

@@ -52,7 +52,7 @@ pub wipe-zeros : (s : List ℕ) → replicate (length s) 0 ≡ wipe s
 wipe-zeros [] = refl
 wipe-zeros (x ∷ xs) = ap (λ (l : List ℕ). 0 ∷ l) (wipe-zeros xs)
 
--- ---- filled up with 0
+-- ── filled up with 0 ──
 pub padded-length : (k : ℕ) (l : List ℕ) → length l ≤ k → length (padded k l) ≡ k
 padded-length k l h = omega (arith, length-append l (replicate (k - length l) 0), length-replicate {A = ℕ} (k - length l) 0)
 
@@ -70,7 +70,7 @@ padded-at k l i = go l i
     go (x ∷ xs) zero = refl
     go (x ∷ xs) (suc j) = go xs j
 
--- ---- an element shifted in
+-- ── an element shifted in ──
 pub push-length : (x : ℕ) (s : List ℕ) → length (pushIn x s) ≡ length s
 push-length x [] = refl
 push-length x (y ∷ ys) = ap suc (push-length y ys)
@@ -121,7 +121,7 @@ module _ (s : List ℕ) (at x : ℕ) where
         ∙ getD-drop at s (i - 1 - at) 0
         ∙ ap (λ (n : ℕ). getD s n 0) (let q : at + (i - 1 - at) ≡ i - 1 = omega arith in q)
 
--- ---- an element shifted out
+-- ── an element shifted out ──
 pub pull-length : (s : List ℕ) (x : ℕ) → length (pullOut s x) ≡ length s
 pull-length [] x = refl
 pull-length (y ∷ []) x = refl

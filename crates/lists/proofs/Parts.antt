@@ -12,7 +12,7 @@ use Rattle.lists.specs.Scan.{all}
 use Rattle.lists.specs.Part.{between, splice}
 use Rattle.lists.proofs.Tests.{and-both, all-append, all-take, all-drop}
 
--- ---- a part
+-- ── a part ──
 pub between-length : (l : List ℕ) (a e : ℕ) → a ≤ e → e ≤ length l → length (between l a e) ≡ e - a
 between-length l a e h k = simp (length-take, length-drop) (omega arith)
 
@@ -59,7 +59,7 @@ between-right x y a e n h =
     ap (λ (m : ℕ). take m (drop (n + a) (x ++ y))) q
     ∙ ap (take (e - a)) (sym (drop-drop a n (x ++ y)) ∙ ap (drop a) (drop-at x y n h))
 
--- ---- a part after the write of one element
+-- ── a part after the write of one element ──
 module _ (l : List ℕ) (a e i v : ℕ) where
   pub between-set-before : i < a → between (set l i v) a e ≡ between l a e
   between-set-before h = ap (take (e - a)) (drop-set-lt a l i v h)
@@ -73,7 +73,7 @@ module _ (l : List ℕ) (a e i v : ℕ) where
       ∙ ap (take (e - a)) (drop-set-add a l (i - a) v)
       ∙ take-set-lt (e - a) (drop a l) (i - a) v (omega arith)
 
--- ---- a part written over
+-- ── a part written over ──
 pub splice-own : (l : List ℕ) (a e : ℕ) → splice l a e (between l a e) ≡ l
 unfolding splice
 splice-own l a e = ap (λ (z : List ℕ). take a l ++ z) (take-append-drop (e - a) (drop a l)) ∙ take-append-drop a l

@@ -18,7 +18,7 @@ both false b e = absurd (false≢true e)
 pub and-both : {a b : Bool} → a ≡ true → b ≡ true → a && b ≡ true
 and-both {a} {b} e f = ap (λ (t : Bool). t && b) e ∙ f
 
--- ---- each passes
+-- ── each passes ──
 module _ (p : ℕ → Bool) where
   pub all-at : (l : List ℕ) → all p l ≡ true → (i : ℕ) → i < length l → p (getD l i 0) ≡ true
   all-at [] e i h = absurd (omega arith)
@@ -77,7 +77,7 @@ zeros-at (suc n) (suc i) = zeros-at n i
 pub zeros-all : (n b : ℕ) → all (atMost b) (replicate n 0) ≡ true
 zeros-all n b = all-replicate (atMost b) n 0 (le-leb 0 b (omega arith))
 
--- ---- the first that passes
+-- ── the first that passes ──
 module _ (p : ℕ → Bool) where
   pub first-le : (l : List ℕ) → first p l ≤ length l
   first-le [] = omega arith
@@ -114,7 +114,7 @@ module _ (p : ℕ → Bool) where
   first-is (x ∷ xs) (suc i) h t b =
       ap (λ (c : Bool). choose c 0 (suc (first p xs))) (b 0 (omega arith)) ∙ ap suc (first-is xs i (omega arith) t (λ j k. b (suc j) (omega arith)))
 
-  -- ---- the last that passes
+  -- ── the last that passes ──
   pub past-le : (l : List ℕ) → past p l ≤ length l
   past-le [] = omega arith
   past-le (x ∷ xs) = go (p x) (past p xs) (past-le xs)
@@ -146,7 +146,7 @@ module _ (p : ℕ → Bool) where
       go t e zero (suc i) ih k h = ih i (omega arith) (omega arith)
       go t e (suc n) (suc i) ih k h = ih i (omega arith) (omega arith)
 
-  -- ---- how many pass
+  -- ── how many pass ──
   pub count-le : (l : List ℕ) → count p l ≤ length l
   count-le [] = omega arith
   count-le (x ∷ xs) = go (p x) (count-le xs)
@@ -182,7 +182,7 @@ module _ (p : ℕ → Bool) where
   count-none (x ∷ xs) h =
       ap (λ (t : Bool). choose t (suc (count p xs)) (count p xs)) (h 0 (omega arith)) ∙ count-none xs (λ i k. h (suc i) (omega arith))
 
--- ---- the one that passes after n others: there is one exactly where more than n pass
+-- ── the one that passes after n others: there is one exactly where more than n pass ──
 pub record Stands (p : ℕ → Bool) (n : ℕ) (l : List ℕ) (i : ℕ) : Type 0 where
   pub within : i < length l
   pub passes : p (getD l i 0) ≡ true
@@ -217,7 +217,7 @@ module _ (p : ℕ → Bool) where
       go true e (suc n) ih k = nth-counts p x xs n e ∙ ap suc (ih n (omega arith))
       go false e n ih k = nth-skips p x xs n e ∙ ap suc (ih n k)
 
--- ---- ascending bytes
+-- ── ascending bytes ──
 rises-parts : (lo x : ℕ) (xs : List ℕ) → rises lo (x ∷ xs) ≡ true → (lo ≤ x) × (x ≤ 255) × (rises (x + 1) xs ≡ true)
 rises-parts lo x xs e =
     let a = both (leb lo x) (leb x 255 && rises (x + 1) xs) e in

@@ -34,7 +34,7 @@ use Rattle.points.specs.declared.insert_point.Step.the-variants.{Next, F
 use Rattle.points.specs.declared.insert_point.Run.{Run}
 use Rattle.points.specs.declared.insert_point.Run.the-variants.{Agrees, Lost}
 
--- ---- how far two tags agree from a depth on
+-- ── how far two tags agree from a depth on ──
 rest-of : (t : List ℕ) (d : ℕ) → between t d (length t) ≡ drop d t
 rest-of t d = take-all (length t - d) (drop d t) (omega (arith, length-drop d t))
 
@@ -48,7 +48,7 @@ module _ (tag t : List ℕ) (d : ℕ) where
   pub agreed-within : {c : ℕ} → d ≤ length tag → c ≡ shared (drop d tag) (drop d t) → d + c ≤ length tag
   agreed-within h e = omega (arith, shared-le (drop d tag) (drop d t) .0, length-drop d tag)
 
--- ---- at a leaf, whose tag t agrees so far
+-- ── at a leaf, whose tag t agrees so far ──
 module _ (tag t : List ℕ) (ref d : ℕ) (upper up : Up) {c : ℕ} (e : c ≡ shared (drop d tag) (drop d t)) where
   abbrev leafBy : ℕ → Point
   leafBy c =
@@ -70,7 +70,7 @@ module _ (tag t : List ℕ) (ref d : ℕ) (upper up : Up) {c : ℕ} (e : c ≡ s
   pub leaf-forks : d + c < length tag → d + c < length t → Fork up ref ref d c ≡ leafPoint tag t ref d upper up
   leaf-forks h k = simp (lt-leb (length tag) (d + c) h, lt-leb (length t) (d + c) k) at leaf-by
 
--- ---- by the first leaf below
+-- ── by the first leaf below ──
 pub ref-by : (a b : Found) → a ≡ b → leafRef b ≡ leafRef a
 ref-by a b e = ap leafRef (sym e)
 
@@ -110,7 +110,7 @@ module _ (up : Up) (ref d c : ℕ) where
   fork-some found.Damaged leaf e z = absurd (z e)
   fork-some found.NoLeaf leaf e z = absurd (z e)
 
--- ---- a run
+-- ── a run ──
 module _ (f : Frame) (words keys tag : List ℕ) (ref d : ℕ) (p : Prefix) where
   pub run-long : 8 < p .full .0 → {r : Run} → r ≡ runBelow f words keys tag d (p .full .0) (lowestOf f words keys ref) → r ≡ runOf f words keys tag ref d p
   unfolding runOf
@@ -144,7 +144,7 @@ module _ (f : Frame) (words keys tag : List ℕ) (ref d : ℕ) (p : Prefix) wher
           omega (arith, shared-le (held p) (drop d tag) .1, length-drop d tag)
       go false e = below-within h (lowestOf f words keys ref) c e
 
--- ---- past a run
+-- ── past a run ──
 module _ (up : Up) (ref byte d c child : ℕ) (e : child ≡ c) where
   pub child-none : child ≡ 0 → Final (Into up ref byte) ≡ childStep up ref byte c d
   child-none z = simp (sym e ∙ z)
@@ -152,7 +152,7 @@ module _ (up : Up) (ref byte d c child : ℕ) (e : child ≡ c) where
   pub child-some : (child ≡ 0 → ⊥) → Next child d byte ≡ childStep up ref byte c d
   child-some z = simp (ne-eqb child 0 z) at (ap (λ (n : ℕ). childStep up ref byte n d) e)
 
--- ---- at an inner record, whose prefix was read as p
+-- ── at an inner record, whose prefix was read as p ──
 module _ (f : Frame) (words keys tag : List ℕ) (kind : ℕ) (rec : List ℕ) (ref d : ℕ) (up : Up) (p : Prefix) (ep : p ≡ prefixAt (f .form) rec) where
   inner-by : (r : Run) → runOf f words keys tag ref d p ≡ r → runStep f words keys tag kind rec ref d up r ≡ innerStep f words keys tag kind rec ref d up
   unfolding innerStep
@@ -183,7 +183,7 @@ module _ (f : Frame) (words keys tag : List ℕ) (kind : ℕ) (rec : List ℕ) (
       pub inner-fork : c < p .full .0 → {q : Point} → q ≡ forkPoint up ref d c (lowestOf f words keys ref) → Final q ≡ innerStep f words keys tag kind rec ref d up
       inner-fork k q = ap Final q ∙ simp (lt-leb (length tag) (d + c) h, lt-leb (p .full .0) c k) at stepped
 
--- ---- a step, by what is arrived at
+-- ── a step, by what is arrived at ──
 module _ (f : Frame) (words keys tag : List ℕ) where
   pub step-by : (left ref d : ℕ) (upper up : Up) (a : Arrival) → arrivalAt f words keys left (placeAt ref) ≡ a
       → stepFrom f words keys tag ref d upper up a ≡ stepOf f words keys tag left ref d upper up
@@ -227,7 +227,7 @@ module _ (f : Frame) (words keys tag : List ℕ) where
   step-depth left ref d upper up r e b q =
       from-depth (arrivalAt f words keys left (placeAt ref)) ref d upper up r e b (step-by left ref d upper up _ refl ∙ q)
 
-  -- ---- the way goes on where a step does, and ends where it does
+  -- ── the way goes on where a step does, and ends where it does ──
   abbrev pub go-on : ℕ → ℕ → Up → Step → Point
   go-on left ref up s = elim s [ Next r e b ↦ pointFrom f words keys tag left r e up (Via ref b) | Final p ↦ p ]
 

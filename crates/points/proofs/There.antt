@@ -40,7 +40,7 @@ use Rattle.points.specs.declared.insert_point.Run.the-variants.{Agrees, 
 use Rattle.points.proofs.Below.{lowest-seen}
 use Rattle.points.proofs.Steps.{go-on}
 
--- ---- an inner record that is arrived at is the one that the reference names
+-- ── an inner record that is arrived at is the one that the reference names ──
 record Named (f : Frame) (words : List ℕ) (x : Place) (k start : ℕ) : Type 0 where
   pool : inPool f x ≡ true
   kind : k ≡ kindAt x
@@ -66,7 +66,7 @@ module _ (f : Frame) (words keys : List ℕ) (left k start : ℕ) where
   named x e = named-by x (inPool f x && (ruleAt f words keys x && onPath left x)) refl e
 
 module _ {f : Frame} {words keys : List ℕ} (w : FrameOf f words keys) (tag : List ℕ) where
-  -- ---- at a leaf
+  -- ── at a leaf ──
   leaf-stands : (t : List ℕ) (ref d : ℕ) (upper up : Up) → LeafSeen f words keys ref → UpThere f words upper → UpThere f words up
       → PointThere f words keys tag (leafPoint tag t ref d upper up)
   unfolding leafPoint
@@ -79,7 +79,7 @@ module _ {f : Frame} {words keys : List ℕ} (w : FrameOf f words keys) (tag : L
       go false e true = tt
       go false e false = record { pool = seen-pool l; seen = l; inside = omega (arith, leb-false (length tag) (d + shared (drop d tag) (drop d t)) e); above = b }
 
-  -- ---- at an inner record
+  -- ── at an inner record ──
   -- a step leads to a child of its record, or to a point whose records are there
   abbrev StepThere : ℕ → Step → Type 0
   StepThere ref (Next r e b) = HasChild f words (placeAt ref) b
@@ -133,7 +133,7 @@ module _ {f : Frame} {words keys : List ℕ} (w : FrameOf f words keys) (tag : L
       unfolding innerStep
       inner-stands = run-stands (runOf f words keys tag ref d (prefixAt (f .form) rec))
 
-  -- ---- the way
+  -- ── the way ──
   step-stands : (left ref d : ℕ) (upper up : Up) → UpThere f words upper → UpThere f words up → StepThere ref (stepOf f words keys tag left ref d upper up)
   unfolding stepOf
   step-stands left ref d upper up a b = go (arrivalAt f words keys left (placeAt ref)) refl

@@ -64,7 +64,7 @@ eight-cut k n l m h = go (decLt n (length l))
         ∙ ap (λ (x : List ℕ). eight (k ++ x)) (sym (append-assoc (take n l) (drop n l) m))
         ∙ ap (λ (x : List ℕ). eight (k ++ (x ++ m))) (take-append-drop n l)
 
--- ---- as the own rule of a record has them
+-- ── as the own rule of a record has them ──
 pub eight-all : (b : ℕ) (l : List ℕ) → all (atMost b) l ≡ true → all (atMost b) (eight l) ≡ true
 eight-all b l e =
     all-take (atMost b) 8 (l ++ replicate 8 0) (all-append (atMost b) l (replicate 8 0) ∙ and-both e (zeros-all 8 b))

@@ -22,7 +22,7 @@ use Rattle.prefix.specs.declared.lookup.PrefixMatch.the-variants.{On, Of
 use Rattle.prefix.proofs.Runs.{held-run}
 use Rattle.prefix.proofs.Eights.{capped-take}
 
--- ---- the cases
+-- ── the cases ──
 pub length-off : (full len depth : ℕ) → len ≤ depth + full → Off 0 ≡ lengthMatch full len depth
 unfolding lengthMatch
 length-off full len depth h = simp (le-ltb (depth + full) len h)
@@ -90,7 +90,7 @@ module _ (p : Prefix) (tag : List ℕ) (depth : ℕ) where
           let on : agrees ≡ true = le-leb (capped (p .full .0)) (storedShared p tag depth) (omega (arith, counted)) in
           ap (On (depth + p .full .0)) a ∙ match-by (and-both on (lt-ltb (depth + p .full .0) (length tag) (omega arith))) ∙ ap (matchOf p tag depth) (sym e)
 
-  -- ---- what an answer says
+  -- ── what an answer says ──
   -- past a prefix the tag has one byte more
   pub match-within : (behavior : PrefixMatchBehavior) {d : ℕ} {after : PrefixMatchBehavior} → matchOf p tag depth behavior ≡ On d after
       → (d ≡ depth + p .full .0) × (d < length tag)
@@ -112,7 +112,7 @@ module _ (p : Prefix) (tag : List ℕ) (depth : ℕ) where
   unfolding matchOf
   match-off e = off-false (agrees && room) (depth + p .full .0) (afterwards (p .full .0)) (storedShared p tag depth) e
 
--- ---- a run's prefix
+-- ── a run's prefix ──
 -- a list of n elements stands in front of another exactly if all of it is shared
 module _ (s t : List ℕ) (n : ℕ) (long : length s ≡ n) where
   begins-shared : take n t ≡ s → n ≤ shared s t

@@ -17,7 +17,7 @@ use Rattle.prefix.proofs.Eights.{eight-length, eight-held, eight-cut}
 abbrev pub prefix : ℕ → List ℕ → Prefix
 prefix n s = record { full = record { 0 = n }; stored = s }
 
--- ---- the cases of the definitions
+-- ── the cases of the definitions ──
 pub split-short : (p : Prefix) (n : ℕ) (leaf : List ℕ) (depth : ℕ) → p .full .0 ≤ 8 → splitOf p n leaf depth ≡ ltrimOf p n
 unfolding splitOf
 split-short p n leaf depth h = simp (le-leb (p .full .0) 8 h)
@@ -69,7 +69,7 @@ merge-by parent b child {k} {len} h f g e l =
     ∙ eight-cut [] 8 start (held child) (omega arith)
     ∙ ap eight (append-snoc (held parent) b (held child)))
 
--- ---- runs
+-- ── runs ──
 -- of a run its first eight bytes are stored
 pub held-run : (run : List ℕ) → held (prefixOf run) ≡ take 8 run
 unfolding prefixOf
@@ -118,7 +118,7 @@ merge-run r b s =
         ∙ eight-cut (r ++ b ∷ []) 8 s [] (omega arith)
         ∙ ap eight (ap (λ (x : List ℕ). (r ++ b ∷ []) ++ x) (append-nil s) ∙ append-snoc r b s)
 
--- ---- eight are stored, whatever was done
+-- ── eight are stored, whatever was done ──
 pub run-length : (run : List ℕ) → length ((prefixOf run) .stored) ≡ 8
 unfolding prefixOf
 run-length run = eight-length run

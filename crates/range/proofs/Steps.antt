@@ -25,7 +25,7 @@ use Rattle.range.specs.declared.After.the-variants.{Leaf, Missing, Damag
 use Rattle.range.specs.declared.Step.{Step}
 use Rattle.range.specs.declared.Step.the-variants.{Next, Final}
 
--- ---- at a leaf, by its length n
+-- ── at a leaf, by its length n ──
 module _ (rec key tag : List ℕ) {n : ℕ} (e : n ≡ getD rec 1 0) where
   pub tag-by : {b : Bool} → b ≡ less (between key 0 n) tag → b ≡ below rec key tag
   unfolding below
@@ -46,7 +46,7 @@ module _ (rec key tag : List ℕ) {n : ℕ} (e : n ≡ getD rec 1 0) where
         ap either (sym t ∙ l)
         ∙ ap (λ (b : Bool). choose b (Final Damaged) (either (below rec key tag))) (sym (le-ltb (length key) (getD rec 1 0) (omega arith)))
 
--- ---- at a reference
+-- ── at a reference ──
 module _ (f : Frame) (words keys tag : List ℕ) (ref : ℕ) where
   pub step-end : ref ≡ 0 → Final Missing ≡ stepOf f words keys tag ref
   unfolding stepOf
@@ -78,7 +78,7 @@ module _ (f : Frame) (words keys tag : List ℕ) (ref : ℕ) where
         ∙ ap (λ (a : ℕ). leafStep (between words a (a + 6)) (keyAt f keys (ref / 8)) tag (ref / 8)) (e ∙ ap (startAt f) (leaf-named ref k))
         ∙ leaf-by p
 
--- ---- from a reference on
+-- ── from a reference on ──
 module _ (f : Frame) (words keys tag : List ℕ) where
   abbrev pub go-on : ℕ → Step → After
   go-on left s = elim s [ Next r ↦ afterFrom f words keys tag left r | Final a ↦ a ]
@@ -98,7 +98,7 @@ module _ (f : Frame) (words keys tag : List ℕ) where
   after-over zero ref h = refl
   after-over (suc left) ref h = absurd (omega arith)
 
--- ---- the call
+-- ── the call ──
 pub walk-by : {f : Frame} {words keys : List ℕ} (tag : List ℕ) {a : After} → FrameOf f words keys → a ≡ afterFirst f words keys tag → a ≡ walkOf words keys tag
 walk-by {f} {words} {keys} tag w e = e ∙ ap (λ (g : Frame). afterFirst g words keys tag) (w .read)
 

@@ -1,4 +1,4 @@
--- First-at-or-after: frame 6, 7, whole check 6, then the first held tag that is not below the given bytes in unsigned byte order, or 1.
+-- First-at-or-after: after the tests for the frame, the scratch and the whole block, the first held tag that is not below the given bytes in unsigned byte order, or 1.
 use Prim.Native.Nat.{ℕ, zero, suc, _+_}
 use mathlib.Core.List.{List}
 use mathlib.Core.Bool.{Bool}

@@ -127,7 +127,7 @@ fn walk(words: &[u32], keys: &[u8], tag: &[u8]) -> After
 }
 
 // The call.
-pub fn first_at_or_after(scratch: &mut [u8], words: &[u32], keys: &[u8], tag: &[u8]) -> After
+pub fn first_at_or_after(words: &[u32], keys: &[u8], scratch: &mut [u8], tag: &[u8]) -> After
     ensures { λ r. ⌜ answer r (now (scratch .exit)) ≡ afterOf (now (words .entry)) (now (keys .entry)) (now (scratch .entry)) (now (tag .entry)) ⌝ }
 {
     let c = check::check(words, keys, scratch);

@@ -109,7 +109,7 @@ module _ {f : Frame} {words keys : List ℕ} {d : Option (Tree Held)} (s : Shown
   pub search-missing : ((h : Held) → ¬ In (tag, h) (held d)) → searchOf words keys tag ≡ Missing
   search-missing out = none-missing Exact (λ t h i e. out h (subst (λ (t : Tag). In (t, h) (held d)) (sym e) i))
 
-  -- Prefix search finds the held tag that begins the given bytes, with its leaf and its last total.
+  -- Of the held tags, prefix search finds the one that the given bytes begin with, and gives its leaf and its last total.
   pub prefix-found : (n v : ℕ) → prefixSearchOf words keys tag ≡ Leaf n v → (t : Tag) × Begins t tag × In (t, record { number = n; total = v }) (held d)
   prefix-found n v e = found-held Begin n v e
 

@@ -19,8 +19,8 @@ use Rattle.reading.proofs.Edges.{minimum-shown, maximum-shown}
 use Rattle.reading.proofs.Nexts.{next-shown, facts-shown, tag-shown, list-shown}
 use Rattle.reading.proofs.Frees.{next-free, facts-free, tag-free}
 
--- On every sound block: search finds a tag exactly when it is held, with its last total and its leaf; prefix search finds the held tag that begins
--- the given bytes; minimum, maximum and next leaf answer as the sorted list; walking by next leaf from the minimum lists every tag once, in order.
+-- On every sound block: search finds a tag exactly when it is held, with its last total and its leaf; prefix search finds the one that the given
+-- bytes begin with; minimum, maximum and next leaf answer as the sorted list; walking by next leaf from the minimum lists every tag once, in order.
 pub reads-shown : {f : Frame} {words keys : List ℕ} {d : Option (Tree Held)} → Shown f words keys d → Reads words keys (held d)
 reads-shown s =
     record {

@@ -27,7 +27,7 @@ pub record Reads (words keys : List ℕ) (l : Listing Held) : Type 0 where
   pub order : Sorted l
   -- search finds a tag exactly when it is held, with its last total and its leaf
   pub search : (tag : List ℕ) → Bytes tag → searchOf words keys tag ≡ answerOf (find exact tag l)
-  -- prefix search finds the held tag that begins the given bytes
+  -- prefix search finds the one that the given bytes begin with
   pub prefix-search : (tag : List ℕ) → Bytes tag → prefixSearchOf words keys tag ≡ answerOf (find begin tag l)
   -- minimum and maximum are the first and the last
   pub minimum : minimumOf words keys ≡ answerOf (first-of l)

@@ -21,7 +21,7 @@ use Rattle.records.proofs.Slots.{within, small-within, named-count}
 use Rattle.records.proofs.Owns.{body-fits, sorted-fits, indirect-fits, direct-fits}
 use Rattle.records.proofs.Rows.{Scanned, sorted-length, filled-skips, filled-holds, direct-scanned, indirect-scanned}
 
--- ---- the bytes ascend, below 256, and no reference is 0
+-- ── the bytes ascend, below 256, and no reference is 0 ──
 pub climbs-lower : (a b : ℕ) (es : List (ℕ × ℕ)) → a ≤ b → Climbs b es → Climbs a es
 climbs-lower a b [] h c = tt
 climbs-lower a b (e ∷ es) h c = (record { low = omega (arith, c .0 .low); byte = c .0 .byte; some = c .0 .some }, c .1)
@@ -53,7 +53,7 @@ filled-length b (r ∷ rs) = go (nonzero r) refl (filled-length (suc b) rs)
     go true e ih = ap length (filled-holds b r rs e) ∙ ap suc ih ∙ ap (λ (t : Bool). choose t (suc (count nonzero rs)) (count nonzero rs)) (sym e)
     go false e ih = ap length (filled-skips b r rs e) ∙ ih ∙ ap (λ (t : Bool). choose t (suc (count nonzero rs)) (count nonzero rs)) (sym e)
 
--- ---- the child for a byte, looked up in the row
+-- ── the child for a byte, looked up in the row ──
 beside-for : (b : ℕ) (ks rs : List ℕ) → length ks ≡ length rs
     → choose (ltb (first (is b) ks) (length ks)) (getD rs (first (is b) ks) 0) 0 ≡ refFor b (beside ks rs)
 beside-for b [] rs e = refl
@@ -103,7 +103,7 @@ filled-for a (suc i) (r ∷ rs) h =
         ap (refFor (a + suc i)) (filled-holds a r rs e) ∙ ap (λ (t : Bool). choose t r (refFor (a + suc i) (filled (suc a) rs))) (ne-eqb a (a + suc i) (λ e. omega arith)) ∙ ih
     go false e ih = ap (refFor (a + suc i)) (filled-skips a r rs e) ∙ ih
 
--- ---- each kind's row, by its body's rule
+-- ── each kind's row, by its body's rule ──
 sorted-row : (k : ℕ) (body : List ℕ) (n : ℕ) → length body ≡ k + k → n ≤ k → sortedOk k body n ≡ true → RowRule (sortedRow k body n) (sortedChild k body n) n
 unfolding sortedOk
 sorted-row k body n long few ok =

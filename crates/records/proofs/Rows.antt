@@ -23,7 +23,7 @@ use Rattle.records.proofs.Slots.{slot-filled}
 abbrev Pairs : Type 0
 Pairs = List (ℕ × ℕ)
 
--- ---- any row
+-- ── any row ──
 pub entry-out : (es : Pairs) (i : ℕ) → length es ≤ i → entryAt i es ≡ Nothing
 entry-out [] i h = refl
 entry-out (e ∷ es) zero h = absurd (omega arith)
@@ -49,7 +49,7 @@ last-later : (e : ℕ × ℕ) (es : Pairs) (b r : ℕ) → lastEntry es ≡ Chil
 last-later e [] b r h = absurd (let z : _≡_ {A = ℕ} 0 1 = cc in omega arith)
 last-later e (f ∷ es) b r h = refl
 
--- ---- keys beside references
+-- ── keys beside references ──
 pub beside-length : (ks rs : List ℕ) → length ks ≡ length rs → length (beside ks rs) ≡ length ks
 beside-length [] rs e = refl
 beside-length (k ∷ ks) [] e = absurd (omega arith)
@@ -97,7 +97,7 @@ module _ (k : ℕ) (body : List ℕ) (n : ℕ) (long : length body ≡ k + k) (f
   pub sorted-last : lastEntry (sortedRow k body n) ≡ entryAt (n - 1) (sortedRow k body n)
   sorted-last = last-at (sortedRow k body n) ∙ ap (λ (m : ℕ). entryAt (m - 1) (sortedRow k body n)) sorted-length
 
--- ---- places that are not 0
+-- ── places that are not 0 ──
 -- what stands at place i of a list whose first place is for byte b
 abbrev pub placed : ℕ → List ℕ → ℕ → Entry
 placed b l i = choose (ltb i (length l)) (Child (b + i) (getD l i 0)) Nothing
@@ -196,7 +196,7 @@ filled-last b (r ∷ rs) = go (nonzero r) refl (past nonzero rs) (past-le nonzer
     go false h zero l ih = ap lastEntry (filled-skips b r rs h) ∙ ih ∙ ap (λ (t : Bool). lastPlaced b (r ∷ rs) (onward (choose t 1 0) zero)) (sym h)
     go false h (suc e) l ih = ap lastEntry (filled-skips b r rs h) ∙ ih ∙ placed-on b r rs e
 
--- ---- kinds 3 and 4: the list `s` that is scanned, and the list `l` of what each byte has
+-- ── kinds 3 and 4: the list `s` that is scanned, and the list `l` of what each byte has ──
 pub record Scanned (body s l : List ℕ) (ref : ℕ → ℕ) : Type 0 where
   pub front : take 256 body ≡ s
   pub short : length s ≡ 256

@@ -79,7 +79,7 @@ pub tallied-test : {slots t : List ℕ} → Tallied slots t → (j next r f : �
 tallied-test {slots} {t} w j next r f e h q =
     ap (λ (k : ℕ). eqb k (choose (nonzero r) 1 0)) (sym (w .each (j + 1) (omega arith)) ∙ ap (λ (k : ℕ). getD t k 0) (sym e)) ∙ ap (eqb (getD t next 0)) (sym q)
 
--- ---- what the rule says
+-- ── what the rule says ──
 -- a test that is one of two others that exclude each other
 module _ (p q r : ℕ → Bool) where
   count-split : (l : List ℕ) → ((x : ℕ) → choose (p x) 1 0 ≡ choose (q x) 1 0 + choose (r x) 1 0) → count p l ≡ count q l + count r l

@@ -1,4 +1,4 @@
-// The body of kinds 1 and 2, with k places of which n are used: key bytes ascending, then references in the same order.
+// The body of kinds 1 and 2, with k places of which n are used: the bytes in ascending order, and after all places for bytes the references, each in its byte's place.
 ghost use mathlib.Core.Path.{_≡_};
 ghost use Prim.Native.Nat.{_≤_, _+_};
 ghost use lib.ListN.{length};

@@ -24,7 +24,7 @@ use Rattle.tree.specs.declared.answer.Found.the-variants.{Missing, Damag
 use Rattle.tree.specs.declared.arrive.Arrival.{Arrival}
 use Rattle.tree.specs.declared.arrive.Arrival.the-variants.{Leaf, Inner, Broken}
 
--- ---- what a test of `!b` says of what b tells
+-- ── what a test of `!b` says of what b tells ──
 pub fails : {b v : Bool} → b ≡ v → not b ≡ true → v ≡ false
 fails {b = true} e n = sym e ∙ sym n
 fails {b = false} e n = sym e
@@ -33,14 +33,14 @@ pub holds : {b v : Bool} → b ≡ v → not b ≡ false → v ≡ true
 holds {b = true} e n = sym e
 holds {b = false} e n = sym e ∙ sym n
 
--- ---- the place that a reference names, by its kind
+-- ── the place that a reference names, by its kind ──
 pub leaf-named : (ref : ℕ) → ref % 8 ≡ 5 → placeAt ref ≡ leaf-place (ref / 8)
 leaf-named ref e = ap (λ (b : Bool). choose b (leaf-place (ref / 8)) (inner-place (ref % 8) (ref / 8))) (eq-eqb (ref % 8) 5 e)
 
 pub inner-named : (ref : ℕ) → (ref % 8 ≡ 5 → ⊥) → placeAt ref ≡ inner-place (ref % 8) (ref / 8)
 inner-named ref e = ap (λ (b : Bool). choose b (leaf-place (ref / 8)) (inner-place (ref % 8) (ref / 8))) (ne-eqb (ref % 8) 5 e)
 
--- ---- a record of a pool lies within the slices
+-- ── a record of a pool lies within the slices ──
 module _ {f : Frame} {words keys : List ℕ} (w : FrameOf f words keys) where
   -- a leaf, by its place and first word
   module _ (x : Place) (n start : ℕ) (e : x ≡ leaf-place n) (s : start ≡ startAt f x) (p : inPool f x ≡ true) where
@@ -102,7 +102,7 @@ module _ {f : Frame} {words keys : List ℕ} (w : FrameOf f words keys) where
               };
         }
 
--- ---- the cases of an arrival
+-- ── the cases of an arrival ──
 module _ (f : Frame) (words keys : List ℕ) (left : ℕ) (x : Place) where
   pub arrive-outside : inPool f x ≡ false → Broken ≡ arrivalAt f words keys left x
   unfolding arrivalAt
@@ -127,7 +127,7 @@ module _ (f : Frame) (words keys : List ℕ) (left : ℕ) (x : Place) where
       arrive-inner k n e z =
           ap (Inner k) (s ∙ ap (startAt f) e) ∙ sym (ap (arrived f) e) ∙ simp (p, r, ap (onPath left) e ∙ lt-ltb 0 left (omega arith))
 
--- ---- what an arrival says
+-- ── what an arrival says ──
 abbrev There : Frame → List ℕ → List ℕ → Arrival → Type 0
 There f words keys (Leaf n start) = LeafThere (f .form .limit) words keys n start
 There f words keys (Inner k start) = InnerThere (f .form) words k start
@@ -154,7 +154,7 @@ module _ {f : Frame} {words keys : List ℕ} (w : FrameOf f words keys) (left : 
   pub inner-there : (k start : ℕ) → arrivalAt f words keys left x ≡ Inner k start → InnerThere (f .form) words k start
   inner-there k start e = subst (There f words keys) e there
 
--- ---- where a call begins
+-- ── where a call begins ──
 module _ {A : Type 0} (words keys : List ℕ) (given : Frame → A) (refused : A) where
   pub frame-out : frameFits words keys ≡ false → refused ≡ withFrame words keys given refused
   unfolding withFrame

@@ -29,7 +29,7 @@ module _ (f : Frame) (words keys : List ℕ) (edge : Edge) where
   unfolding edgeStep
   edge-step-by left ref a e = ap (edgeFrom f words edge) (sym e)
 
-  -- ---- the walk goes on where a step does, and ends where it does
+  -- ── the walk goes on where a step does, and ends where it does ──
   go-on : ℕ → EdgeStep → Found
   go-on left s = elim s [ Next r ↦ edgeOf f words keys edge left r | Final a ↦ a ]
 
@@ -44,7 +44,7 @@ module _ (f : Frame) (words keys : List ℕ) (edge : Edge) where
   edge-end zero ref a e = ap edgeEnded e
   edge-end (suc left) ref a e = ap (go-on left) e
 
-  -- ---- with so many steps left, the next one included; where none is left the block is damaged
+  -- ── with so many steps left, the next one included; where none is left the block is damaged ──
   abbrev pub edgesOf : ℕ → ℕ → Found
   edgesOf zero ref = Damaged
   edgesOf (suc left) ref = edgeOf f words keys edge left ref

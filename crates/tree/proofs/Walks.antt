@@ -33,7 +33,7 @@ use Rattle.tree.specs.declared.lookup.Aim.{Aim}
 use Rattle.tree.specs.declared.lookup.Step.{Step}
 use Rattle.tree.specs.declared.lookup.Step.the-variants.{Next, Final}
 
--- ---- at a leaf
+-- ── at a leaf ──
 module _ (rec key tag : List ℕ) (aim : Aim) (n depth : ℕ) (behavior : PrefixMatchBehavior) where
   module _ (len from : ℕ) (el : len ≡ getD rec 1 0) (ef : from ≡ compareFrom (length tag) len depth behavior) where
     abbrev compared : ℕ → ℕ → Bool
@@ -52,7 +52,7 @@ module _ (rec key tag : List ℕ) (aim : Aim) (n depth : ℕ) (behavior : Prefix
     unfolding leafAnswer
     leaf-other e = simp (sym bytes ∙ e)
 
--- ---- at an inner record, whose prefix was read as p
+-- ── at an inner record, whose prefix was read as p ──
 module _ (form : Form) (kind : ℕ) (rec tag : List ℕ) (depth : ℕ) (behavior : PrefixMatchBehavior) (p : Prefix) (ep : p ≡ prefixAt form rec) where
   stepped : (m : PrefixMatch) → matchOf p tag depth behavior ≡ m → afterMatch form kind rec tag m ≡ innerStep form kind rec tag depth behavior
   unfolding innerStep
@@ -72,7 +72,7 @@ module _ (form : Form) (kind : ℕ) (rec tag : List ℕ) (depth : ℕ) (behavior
     inner-next z = simp (ne-eqb child 0 z) at next
 
 module _ (f : Frame) (words keys tag : List ℕ) (aim : Aim) where
-  -- ---- a step, by what the walk arrives at
+  -- ── a step, by what the walk arrives at ──
   module _ (left ref depth : ℕ) (behavior : PrefixMatchBehavior) where
     pub step-by : (a : Arrival) → arrivalAt f words keys left (placeAt ref) ≡ a
         → stepFrom f words keys tag aim depth behavior a ≡ stepOf f words keys tag aim left ref depth behavior
@@ -107,7 +107,7 @@ module _ (f : Frame) (words keys tag : List ℕ) (aim : Aim) where
   step-depth left ref depth behavior r d s q =
       from-depth (arrivalAt f words keys left (placeAt ref)) depth behavior r d s (step-by left ref depth behavior _ refl ∙ q)
 
-  -- ---- the walk goes on where a step does, and ends where it does
+  -- ── the walk goes on where a step does, and ends where it does ──
   go-on : ℕ → Step → Found
   go-on left s = elim s [ Next r d s ↦ walkOf f words keys tag aim left r d s | Final a ↦ a ]
 
@@ -125,7 +125,7 @@ module _ (f : Frame) (words keys tag : List ℕ) (aim : Aim) where
   walk-end zero ref depth behavior a e = ap endedOf e
   walk-end (suc left) ref depth behavior a e = ap (go-on left) e
 
-  -- ---- with so many steps left, the next one included; where none is left the block is damaged
+  -- ── with so many steps left, the next one included; where none is left the block is damaged ──
   abbrev pub stepsOf : ℕ → ℕ → ℕ → PrefixMatchBehavior → Found
   stepsOf zero ref depth behavior = Damaged
   stepsOf (suc left) ref depth behavior = walkOf f words keys tag aim left ref depth behavior

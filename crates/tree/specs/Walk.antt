@@ -31,12 +31,12 @@ use Rattle.tree.specs.declared.lookup.Step.{Step}
 use Rattle.tree.specs.declared.lookup.Step.the-variants.{Next, Final}
 
 -- ── at a leaf ──
--- all bytes are compared if any were skipped, else those from the depth on, or from the shorter length where that is less
+-- once bytes were skipped comparing begins at the first byte; before, at the depth, or where the shorter of the two ends if it ends above
 abbrev pub compareFrom : ℕ → ℕ → ℕ → PrefixMatchBehavior → ℕ
 compareFrom given len depth Optimistic = 0
 compareFrom given len depth Pessimistic = min depth (min given len)
 
--- search wants the two equal, prefix search wants the leaf's to begin the given ones
+-- search asks that both are the same, prefix search that the given bytes go on from the leaf's
 abbrev pub fits : Aim → List ℕ → List ℕ → Bool
 fits Exact given held = same given held
 fits Begin given held = begins held given
@@ -74,7 +74,7 @@ stepFrom f words keys tag aim depth behavior (Inner kind start) =
     innerStep (f .form) kind (between words start (start + recordWords (f .form) kind)) tag depth behavior
 stepFrom f words keys tag aim depth behavior Broken = Final Damaged
 
--- either the next reference with its depth or the final answer; with so many inner records left on the path
+-- a reference to go on at and its depth, or the answer; with so many inner records left on the path
 unfoldable pub stepOf : Frame → List ℕ → List ℕ → List ℕ → Aim → ℕ → ℕ → ℕ → PrefixMatchBehavior → Step
 stepOf f words keys tag aim left ref depth behavior = stepFrom f words keys tag aim depth behavior (arrivalAt f words keys left (placeAt ref))
 

@@ -16,7 +16,7 @@ use Rattle.prefix.specs.Run.{capped, held}
 use Rattle.prefix.specs.declared.Prefix.{Prefix}
 use Rattle.whole.specs.Witness.{goesOn, storedAgrees}
 
--- ---- two tags
+-- ── two tags ──
 shared-take-front : (e : ℕ) (w t : List ℕ) → e ≤ shared w t → take e w ≡ take e t
 shared-take-front e w t h =
     sym (take-take e (shared w t) w h) ∙ ap (take e) (shared-front w t) ∙ take-take e (shared w t) t h
@@ -48,7 +48,7 @@ module _ (e : ℕ) (w : List ℕ) (b : ℕ) (t : List ℕ) where
       ∙ getD-append-add (take e w) (b ∷ []) 0 0 in
       and-both (lt-ltb e (length t) long) (and-both (le-leb e (shared w t) (shared-more w t e (omega arith) (omega arith) front)) (eq-eqb _ _ byte))
 
--- ---- stored bytes and a tag
+-- ── stored bytes and a tag ──
 take-capped : (n : ℕ) (l : List ℕ) → take 8 (take n l) ≡ take (capped n) l
 take-capped n l = go (decLt 8 n)
   where

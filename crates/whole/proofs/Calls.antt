@@ -20,7 +20,7 @@ use Rattle.whole.specs.declared.well_formed.Visit.{Visit}
 use Rattle.whole.specs.declared.well_formed.Visit.the-variants.{Well}
 use Rattle.whole.specs.declared.check.Checked.the-variants.{Sound, Damaged, ShortScratch}
 
--- ---- the end of the way
+-- ── the end of the way ──
 module _ (words : List ℕ) {v : Visit} where
   pub ended-by : {w : ℕ} {s : Seen} {last tags : ℕ} → v ≡ Well w s → last ≡ lastWord words → tags ≡ countWord words
       → eqb (s .next) 0 && eqb last (s .prev) && eqb tags (s .count) ≡ endedWell words v
@@ -29,7 +29,7 @@ module _ (words : List ℕ) {v : Visit} where
       ∙ ap (λ (x : ℕ). eqb (s .next) 0 && eqb (lastWord words) (s .prev) && eqb x (s .count)) t
       ∙ ap (endedWell words) (sym e)
 
--- ---- the way from the root
+-- ── the way from the root ──
 module _ (f : Frame) (words keys m : List ℕ) where
   abbrev pub fork : Bool → Way
   fork b = choose b (way (Well 0 (atStart words)) m) (recordBy f words keys (f .form .limit) (rootWord words) 0 m (atStart words))
@@ -51,7 +51,7 @@ module _ (f : Frame) (words keys m : List ℕ) where
         ∙ ap (λ (x : ℕ). recordBy f words keys (f .form .limit) x 0 m (atStart words)) re
         ∙ root-by false (ne-eqb (rootWord words) 0 (λ q. z (re ∙ q)))
 
--- ---- the whole
+-- ── the whole ──
 pub whole-by : (f : Frame) (words keys : List ℕ) {x : Way} {v : Visit} {m : List ℕ} {a b : Bool} → way v m ≡ x → a ≡ endedWell words v → b ≡ swept f words keys m → a && b ≡ wayWell f words keys x
 unfolding wayWell
 whole-by f words keys {x} {v} {m} {a} {b} e p q =
@@ -68,7 +68,7 @@ module _ (f : Frame) {n : ℕ} {z : List ℕ} (long : n ≡ placesIn f) (ze : z 
   pub clean-long : {k : ℕ} → k ≡ length z → k ≡ placesIn f
   clean-long l = l ∙ ap length clean-start ∙ length-replicate (placesIn f) 0
 
--- ---- the call
+-- ── the call ──
 module _ (words keys scratch : List ℕ) where
   pub check-unframed : frameFits words keys ≡ false → answer Damaged scratch ≡ checkOf words keys scratch
   unfolding checkOf

@@ -17,7 +17,7 @@ use Rattle.frames.proofs.Frames.{caps-most}
 use Rattle.art.specs.Stores.{leaf-place, inner-place}
 use Rattle.whole.specs.Marks.{sumTo, markAt, unmarked, setMark, fresh, reached}
 
--- ---- sums
+-- ── sums ──
 pub sum-suc : (k : ℕ) (l : List ℕ) → sumTo (suc k) l ≡ sumTo k l + getD l k 0
 sum-suc zero [] = refl
 sum-suc (suc k) [] = refl
@@ -33,7 +33,7 @@ sum-small w zero h = omega arith
 sum-small {f} w (suc k) h =
     omega (arith, sum-suc k (f .caps), sum-small w k (omega arith), caps-most w k (omega arith))
 
--- ---- where a mark is
+-- ── where a mark is ──
 pub mark-by : (f : Frame) (ref : ℕ) → sumTo (ref % 8) (f .caps) + ref / 8 ≡ markAt f (placeAt ref)
 mark-by f ref = go (eqb (ref % 8) 5) refl
   where
@@ -41,7 +41,7 @@ mark-by f ref = go (eqb (ref % 8) 5) refl
     go true e = ap (λ (k : ℕ). sumTo k (f .caps) + ref / 8) (eqb-true (ref % 8) 5 e)
     go false e = refl
 
--- ---- a mark is set, or was, or is none
+-- ── a mark is set, or was, or is none ──
 module _ (at : ℕ) (m : List ℕ) where
   pub mark-beyond : length m ≤ at → unmarked at m ≡ false
   mark-beyond h = ap (λ (b : Bool). b && eqb (getD m at 0) 0) (le-ltb at (length m) h)
@@ -61,7 +61,7 @@ module _ (at : ℕ) (m : List ℕ) where
   pub set-off : unmarked at m ≡ false → m ≡ setMark at m
   set-off e = ap (λ (b : Bool). choose b (set m at 1) m) (sym e)
 
--- ---- a record is reached
+-- ── a record is reached ──
 module _ (f : Frame) (ref : ℕ) (m : List ℕ) where
   pub reach-in : inPool f (placeAt ref) ≡ true → unmarked (markAt f (placeAt ref)) m ≡ fresh f ref m
   unfolding fresh
@@ -77,7 +77,7 @@ module _ (f : Frame) (ref : ℕ) (m : List ℕ) where
       let o : fresh f ref m ≡ false = ap (λ (b : Bool). b && unmarked (markAt f (placeAt ref)) m) e in
       (sym o, ap (λ (b : Bool). choose b (set m (markAt f (placeAt ref)) 1) m) (sym o))
 
--- ---- how many are marked
+-- ── how many are marked ──
 count-set : (m : List ℕ) (at : ℕ) → at < length m → getD m at 0 ≡ 0 → count nonzero (set m at 1) ≡ suc (count nonzero m)
 count-set [] at h e = absurd (omega arith)
 count-set (x ∷ xs) zero h e = ap suc (ap (λ (b : Bool). choose b (suc (count nonzero xs)) (count nonzero xs)) (sym (le-ltb 0 x (omega arith))))

@@ -65,7 +65,7 @@ use Rattle.whole.proofs.Ways.{ruled, byRef, obeys, ruled-not, ruled-raw
 absurd-cell : {X : Type 0} {c : Cell Held} → Used c → c ≡ unused → X
 absurd-cell {c = c} u e = absurd (used-not c u e)
 
--- ---- a blank record is unused
+-- ── a blank record is unused ──
 blank-first : (l : List ℕ) → all (atMost 0) l ≡ true → getD l 0 0 ≡ 0
 blank-first [] e = refl
 blank-first (x ∷ xs) e = omega (arith, leb-true x 0 (both (leb x 0) (all (atMost 0) xs) e .0))
@@ -107,7 +107,7 @@ module _ (f : Frame) (words keys : List ℕ) where
       go true p (inl u) = ruled-raw f words keys x (and-both p (h x u)) ∙ sym (cell-in f words keys x p)
       go true p (inr e) = ruled-blank x (sym (cell-in f words keys x p) ∙ e) ∙ sym e
 
--- ---- every place of the pools
+-- ── every place of the pools ──
 module _ {f : Frame} {words keys : List ℕ} (fr : FrameOf f words keys) (m : List ℕ) where
   pools : swept f words keys m ≡ true → (k : ℕ) → 1 ≤ k → k ≤ 4 → sweptPool f words keys m k ≡ true
   unfolding swept
@@ -148,7 +148,7 @@ module _ {f : Frame} {words keys : List ℕ} (fr : FrameOf f words keys) (m : Li
           under-by (getD (f .caps) k 0) (λ n. sweptAt f words keys m (placeAt (n * 8 + k)))
           (λ n i. at (placeAt (n * 8 + k)) (pool-place fr k n l i) (unmarked (markAt f (placeAt (n * 8 + k))) m) refl)
 
--- ---- a tree that is shown by records that obey their rules is good
+-- ── a tree that is shown by records that obey their rules is good ──
 abbrev Rising : Row Held → Type 0
 Rising end = Unit {0}
 Rising (child b t r) = Above b r × Rising r
@@ -213,7 +213,7 @@ module _ (f : Frame) (words keys : List ℕ) (fr : FrameOf f words keys) where
     good-row-of end q h g = tt
     good-row-of (child b t r) q h g = (good-of t (q ++ b ∷ []) (h .0), g .0, good-row-of r q (h .1) (g .1))
 
-  -- ---- no path has more inner records than the limit
+  -- ── no path has more inner records than the limit ──
   leaf-short : (n : ℕ) (t : Tag) (a : Held) → ruled f words keys (leaf-place n) ≡ leaf-cell t a → length t ≤ f .form .limit
   leaf-short n t a e =
       let x = leaf-place n in
@@ -256,7 +256,7 @@ start-tally f words keys =
       count = refl;
     }
 
--- ---- what the check finds is sound
+-- ── what the check finds is sound ──
 links-last : (f : Frame) (words : List ℕ) → linksOf f words .last ≡ lastWord words
 unfolding linksOf
 links-last f words = refl
@@ -287,7 +287,7 @@ module _ (words keys : List ℕ) (fits : frameFits words keys ≡ true) where
   abbrev marking : Way
   marking = recordBy f words keys (f .form .limit) (rootWord words) 0 zeros (atStart words)
 
-  -- ---- no root
+  -- ── no root ──
   zeros-new : (x : Place) → inPool f x ≡ true → unmarked (markAt f x) zeros ≡ true
   zeros-new x p =
       mark-on (markAt f x) zeros (subst (λ (n : ℕ). markAt f x < n) (sym (length-replicate (placesIn f) 0)) (mark-room f x p)) (zeros-at (placesIn f) (markAt f x))
@@ -321,7 +321,7 @@ module _ (words keys : List ℕ) (fits : frameFits words keys ≡ true) where
       none-used : (x : Place) → cellOf f words keys x ≡ unused
       none-used x = by x (inPool f x) refl
 
-  -- ---- a root
+  -- ── a root ──
   module _ (h : ℕ × State) (s : Seen) (t : Tally f words keys (marking .marks) s (h .1)) (sw : swept f words keys (marking .marks) ≡ true) where
     unseen-blank : (x : Place) → inPool f x ≡ true → ¬ In x (h .1 .seen) → blankAt f words keys x ≡ true
     unseen-blank x p n =
@@ -407,7 +407,7 @@ whole-sound words keys e =
     let p = choose-true (frameFits words keys) (wholeBy (frame words) words keys) e in
     way-sound words keys (p .0) (eqb (rootWord words) 0) refl (ap (wayWell (frame words) words keys) (root-by (frame words) words keys (replicate (placesIn (frame words)) 0) (eqb (rootWord words) 0) refl) ∙ p .1)
 
--- ---- what is sound the check finds so
+-- ── what is sound the check finds so ──
 module _ (words keys : List ℕ) (sound : Sound words keys) where
   abbrev g : Frame
   g = frame words
@@ -488,11 +488,11 @@ sound-whole words keys s =
     ap (λ (b : Bool). choose b (wholeBy (frame words) words keys) false) (s .fits)
     ∙ by-tree words keys s (s .tree) (s .good) (s .rooted) (s .once) (s .shown) (s .linked) (s .count)
 
--- ---- each tag below a record of a sound block has every byte of the record's run, those that no record stores too, and the byte of its child
+-- ── each tag below a record of a sound block has every byte of the record's run, those that no record stores too, and the byte of its child ──
 pub sound-agrees : {words keys : List ℕ} (s : Sound words keys) → AgreesFrom (cellOf (frame words) words keys) (s .tree)
 sound-agrees {words} {keys} s = store-agrees (cellOf (frame words) words keys) (s .tree) (s .good) (s .once) (s .shown)
 
--- ---- the call: with scratch enough it answers 0 exactly for sound blocks
+-- ── the call: with scratch enough it answers 0 exactly for sound blocks ──
 module _ (words keys scratch : List ℕ) where
   check-number : (b c w : Bool) → frameFits words keys ≡ b → ltb (length scratch) (placesIn (frame words)) ≡ c → wholeBy (frame words) words keys ≡ w
       → numberOf (checkOf words keys scratch .result) ≡ choose {A = ℕ} b (choose {A = ℕ} c 7 (choose {A = ℕ} w 0 6)) 6

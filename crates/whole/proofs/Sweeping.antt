@@ -23,7 +23,7 @@ use Rattle.art.specs.Stores.{Place, leaf-place, inner-place}
 use Rattle.whole.specs.Marks.{markAt, unmarked}
 use Rattle.whole.specs.Sweep.{allUnder, sweptAt, sweptPool, swept}
 
--- ---- a blank record, by its place and first word
+-- ── a blank record, by its place and first word ──
 module _ (f : Frame) (words keys : List ℕ) (x : Place) (start : ℕ) (s : start ≡ startAt f x) where
   pub blank-leaf : (n : ℕ) → x ≡ leaf-place n → {a b : Bool} → a ≡ all (atMost 0) (between words start (start + 6)) → b ≡ all (atMost 0) (keyAt f keys n) → a && b ≡ blankAt f words keys x
   blank-leaf n e {a} {b} p q =
@@ -39,7 +39,7 @@ module _ (f : Frame) (words keys : List ℕ) (x : Place) (start : ℕ) (s : star
       ∙ ap (λ (i : ℕ). all (atMost 0) (between words i (i + recordWords (f .form) k))) (s ∙ ap (startAt f) e)
       ∙ ap (blankAt f words keys) (sym e)
 
--- ---- each number below
+-- ── each number below ──
 pub under-next : (n : ℕ) (p : ℕ → Bool) → allUnder n p ≡ true → p n ≡ true → allUnder (n + 1) p ≡ true
 under-next n p a b = ap (λ (k : ℕ). allUnder k p) (add-one n) ∙ ap (λ (t : Bool). t && p n) a ∙ b
 
@@ -63,7 +63,7 @@ pub under-by : (n : ℕ) (p : ℕ → Bool) → ((i : ℕ) → i < n → p i ≡
 under-by zero p h = refl
 under-by (suc n) p h = and-both (under-by n p (λ i k. h i (omega arith))) (h n (omega arith))
 
--- ---- a record was reached, or is blank
+-- ── a record was reached, or is blank ──
 module _ (f : Frame) (words keys m : List ℕ) (x : Place) where
   pub swept-new : {b : Bool} → unmarked (markAt f x) m ≡ true → b ≡ blankAt f words keys x → b ≡ sweptAt f words keys m x
   unfolding sweptAt
@@ -73,7 +73,7 @@ module _ (f : Frame) (words keys m : List ℕ) (x : Place) where
   unfolding sweptAt
   swept-old e = ap (λ (t : Bool). choose t (blankAt f words keys x) true) (sym e)
 
--- ---- a pool
+-- ── a pool ──
 module _ {f : Frame} {words keys : List ℕ} (w : FrameOf f words keys) where
   -- the places of a pool
   pub pool-place : (k i : ℕ) → k ≤ 5 → i < getD (f .caps) k 0 → inPool f (placeAt (i * 8 + k)) ≡ true

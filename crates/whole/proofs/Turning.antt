@@ -1,4 +1,4 @@
--- The cases of the definition that goes by turns from a record to its row, in the code's numbers; what is handed up is a leaf that was seen, and no more leaves are counted than
+-- The cases of the definition that takes a record and its row by turns, in the code's numbers; what is handed up is a leaf that was seen, and no more leaves are counted than
 -- records are marked.
 use Prim.Native.Nat.{ℕ, zero, suc, _+_, _-_, _/_, _%_, _≤_, _<_}
 use mathlib.Core.Path.{_≡_, refl, sym, ap, subst, _∙_}
@@ -40,7 +40,7 @@ use Rattle.whole.proofs.Marking.{reached-count, reached-more}
 use Rattle.whole.proofs.Arrivals.{there}
 use Rattle.whole.proofs.Turns.{first-seen}
 
--- ---- what is done at a record
+-- ── what is done at a record ──
 module _ (f : Frame) (words keys : List ℕ) (left ref depth : ℕ) (m : List ℕ) (s : Seen) where
   pub turn-old : fresh f ref m ≡ false → Done Ill ≡ turnAt f words keys left ref depth m s
   unfolding turnAt
@@ -52,7 +52,7 @@ module _ (f : Frame) (words keys : List ℕ) (left ref depth : ℕ) (m : List �
       t ∙ ap (turnOf f words ref depth s) h
       ∙ ap (λ (b : Bool). choose b (turnOf f words ref depth s (arrivalAt f words keys left (placeAt ref))) (Done Ill)) (sym e)
 
--- ---- where a record branches
+-- ── where a record branches ──
 -- the limit of a fitting frame's form is small
 pub limit-small : {f : Frame} {words keys : List ℕ} → FrameOf f words keys → f .form .limit ≤ 128
 unfolding frameOf
@@ -166,7 +166,7 @@ module _ (f : Frame) (words : List ℕ) (row : Row) (h : InnerThere (f .form) wo
   pub row-whole : b ≡ 0 → rowFrom b (rowOf f words row) ≡ rowOf f words row
   row-whole e = from-all 0 b (rowOf f words row) (row-rule (h .fits) .climbs) (omega arith)
 
--- ---- the turns of a record
+-- ── the turns of a record ──
 module _ (f : Frame) (words keys : List ℕ) (left ref depth : ℕ) (m : List ℕ) (s : Seen) where
   pub record-done : (v : Visit) → turnAt f words keys left ref depth m s ≡ Done v → recordBy f words keys left ref depth m s ≡ way v (reached f ref m)
   unfolding recordBy
@@ -194,7 +194,7 @@ module _ (f : Frame) (words keys : List ℕ) (left ref depth : ℕ) (m : List �
           ∙ ap (λ (cs : List (ℕ × ℕ)). ends row (rowBy f words keys (recordBy f words keys l) (row .depth) 0 cs (reached f ref m) s)) (sym (row-whole f words row (h .there) 0 refl))
           ∙ ap (λ (k : ℕ). ends row (rowWay f words keys k row 0 0 (reached f ref m) s)) (sym q)
 
--- ---- the turns of a row
+-- ── the turns of a row ──
 module _ (f : Frame) (words keys : List ℕ) (left : ℕ) (row : Row) (b w : ℕ) (m : List ℕ) (s : Seen) where
   pub row-end : rowFrom b (rowOf f words row) ≡ [] → rowWay f words keys left row b w m s ≡ way (rowEnd w s) m
   unfolding rowBy
@@ -222,7 +222,7 @@ module _ (f : Frame) (words keys : List ℕ) (left : ℕ) (row : Row) (b w : ℕ
         row-child
         ∙ ap (λ (v : Visit). wayOn v (child .marks) (λ y m′ s′. rowWay f words keys left row (x + 1) y m′ s′)) h
 
--- ---- what is handed up
+-- ── what is handed up ──
 module _ (f : Frame) (words keys : List ℕ) where
   abbrev Kept : List ℕ → Visit → Type 0
   Kept m v = Sees f words keys v × Counted m v
@@ -325,7 +325,7 @@ module _ (f : Frame) (words keys : List ℕ) where
       turn-kept (suc left) ref depth m s (λ row m′. rowBy f words keys (recordBy f words keys left) (row .depth) 0 (rowOf f words row) m′ s)
       (λ row. row-kept (recordBy f words keys left) (record-kept left) (row .depth) 0 (rowOf f words row) (reached f ref m) s no-witness (omega (arith, reached-more f ref m))) c
 
--- ---- the turns, by what the calls gave
+-- ── the turns, by what the calls gave ──
 module _ {f : Frame} {words keys : List ℕ} (fr : FrameOf f words keys) (left ref depth : ℕ) (m : List ℕ) (s : Seen) {t : Turn} (te : t ≡ turnAt f words keys left ref depth m s)
     {m′ : List ℕ} (me : m′ ≡ reached f ref m) where
   pub record-stops : {r v : Visit} → t ≡ Done v → r ≡ doneOf t → (r ≡ recordBy f words keys left ref depth m s .visit) × (m′ ≡ recordBy f words keys left ref depth m s .marks)
@@ -355,7 +355,7 @@ module _ {f : Frame} {words keys : List ℕ} (fr : FrameOf f words keys) (left r
             re ∙ ap (λ (x : Way). x .marks) at ∙ sym (ap (λ (x : Way). x .marks) q),
           )
 
--- ---- the turns of a row's loop
+-- ── the turns of a row's loop ──
 -- with the marks and leaves so far, the row from a byte on answers what the whole row does with those at the start
 pub record Going (f : Frame) (words keys : List ℕ) (left : ℕ) (row : Row) (m₀ : List ℕ) (s₀ : Seen) (b w : ℕ) (m : List ℕ) (s : Seen) : Type 0 where
   pub ready : RowReady f words keys left row b w s m

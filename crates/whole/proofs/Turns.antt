@@ -21,7 +21,7 @@ use Rattle.whole.specs.declared.well_formed.Turn.the-variants.{Branch, D
 use Rattle.whole.specs.declared.well_formed.Visit.{Visit}
 use Rattle.whole.specs.declared.well_formed.Visit.the-variants.{Well, Ill}
 
--- ---- the witness of a row
+-- ── the witness of a row ──
 module _ (w t : ℕ) where
   pub first-none : w ≡ 0 → t ≡ firstOf w t
   first-none e = ap (λ (b : Bool). choose b t w) (sym (eq-eqb w 0 e))
@@ -48,7 +48,7 @@ first-seen {f} {words} {keys} {w} {t} h l e = subst (LeafSeen f words keys) (sym
     go true q = l
     go false q = h .seen (eqb-false w 0 q)
 
--- ---- a child
+-- ── a child ──
 module _ (f : Frame) (words keys : List ℕ) (e byte w : ℕ) {v : Visit} where
   pub child-ill : v ≡ Ill → Ill ≡ childEnd f words keys e byte w v
   child-ill q = ap (childEnd f words keys e byte w) (sym q)
@@ -66,7 +66,7 @@ module _ (f : Frame) (words keys : List ℕ) (e byte w : ℕ) {v : Visit} where
     pub child-parts : goesOn e (tagAt f words keys x) byte (tagAt f words keys t) ≡ false → Ill ≡ childEnd f words keys e byte w v
     child-parts g = child-by false g
 
--- ---- a record's end
+-- ── a record's end ──
 module _ (f : Frame) (words keys : List ℕ) (row : Row) (depth : ℕ) where
   abbrev agreement : ℕ → Bool
   agreement w = storedAgrees depth (prefixAt (f .form) (innerRec (f .form) words (row .kind) (row .start))) (tagAt f words keys w)
@@ -84,7 +84,7 @@ module _ (f : Frame) (words keys : List ℕ) (row : Row) (depth : ℕ) where
     pub record-parts : agreement w ≡ false → Ill ≡ recordEnd f words keys row depth v
     record-parts g = record-by false g
 
--- ---- a leaf, by its links
+-- ── a leaf, by its links ──
 module _ (rec : List ℕ) (ref : ℕ) (s : Seen) {prev next : ℕ} (p : prev ≡ previousLeaf rec) (n : next ≡ nextLeaf rec) where
   abbrev ahead : ℕ → Visit
   ahead x = Well ref (record { prev = ref; next = x; count = s .count + 1 })
@@ -101,7 +101,7 @@ module _ (rec : List ℕ) (ref : ℕ) (s : Seen) {prev next : ℕ} (p : prev ≡
   pub leaf-parts : eqb prev (s .prev) && eqb (s .next) ref ≡ false → Ill ≡ leafVisit rec ref s
   leaf-parts e = leaf-by false e
 
--- ---- what is to be done
+-- ── what is to be done ──
 module _ (f : Frame) (words : List ℕ) (ref depth : ℕ) (s : Seen) {a : Arrival} where
   pub turn-leaf : {n start : ℕ} {v : Visit} → a ≡ Leaf n start → v ≡ leafVisit (between words start (start + 6)) ref s → Done v ≡ turnOf f words ref depth s a
   turn-leaf e h = ap Done h ∙ ap (turnOf f words ref depth s) (sym e)

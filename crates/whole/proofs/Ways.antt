@@ -53,7 +53,7 @@ use Rattle.art.proofs.Witnesses.{longer}
 use Rattle.whole.proofs.Turns.{row-none, row-some, first-none, first-some, child-ill, child-well, child-parts, record-ill, record-well, record-parts}
 use Rattle.whole.proofs.Turning.{turn-old, turn-new, branches, record-done, record-branch, row-whole}
 
--- ---- tests
+-- ── tests ──
 not-true : {b : Bool} → (b ≡ true → ⊥) → b ≡ false
 not-true {b = true} h = absurd (h refl)
 not-true {b = false} h = refl
@@ -67,7 +67,7 @@ module _ (d : ℕ) (form : Form) (rec : List ℕ) (t : Tag) where
   unfolding prefixAt
   stored-no h = stored-true d (prefixAt form rec) (stored-eight form rec) t h
 
--- ---- the store of the records that obey their rules
+-- ── the store of the records that obey their rules ──
 module _ (f : Frame) (words keys : List ℕ) where
   abbrev pub ruled : Store Held
   ruled x = choose (inPool f x && ruleAt f words keys x) (rawCell f words keys x) unused
@@ -107,7 +107,7 @@ module _ (f : Frame) (words keys : List ℕ) where
       go true o = let q : _≡_ {A = Cell Held} (leaf-cell (tagAt f words keys (leaf-ref n)) (holds n)) (leaf-cell t a) = sym (ruled-leaf n o) ∙ e in cc
       go false o = let q : _≡_ {A = Cell Held} unused (leaf-cell t a) = sym (ruled-not (leaf-place n) o) ∙ e in let z : _≡_ {A = ℕ} 0 1 = cc in absurd (omega arith)
 
-  -- ---- the marks are the places seen
+  -- ── the marks are the places seen ──
   pub record Tally (m : List ℕ) (s : Seen) (z : State) : Type 0 where
     pub long : length m ≡ placesIn f
     pub on : (x : Place) → inPool f x ≡ true → In x (z .seen) → getD m (markAt f x) 0 ≡ 0 → ⊥
@@ -135,7 +135,7 @@ module _ (f : Frame) (words keys : List ℕ) where
   abbrev Agrees : Checking → Probing → Type 0
   Agrees g go = (ref d : ℕ) (m : List ℕ) (s : Seen) (z : State) → Tally m s z → Same (g ref d m s) (go d (placeAt ref) z)
 
-  -- ---- a place is marked
+  -- ── a place is marked ──
   module _ {m : List ℕ} {s : Seen} {z : State} (t : Tally m s z) (x : Place) (p : inPool f x ≡ true) where
     tally-room : markAt f x < length m
     tally-room = omega (arith, t .long, mark-room f x p)
@@ -170,7 +170,7 @@ module _ (f : Frame) (words keys : List ℕ) where
         seen-rules y (inl e) = ap obeys e ∙ and-both p r
         seen-rules y (inr i) = t .rules y i
 
-  -- ---- a leaf
+  -- ── a leaf ──
   link-in : (i n : ℕ) → inPool f (leaf-place n) ≡ true → linkAt f words i n ≡ getD (recordAt f words (leaf-place n)) i 0
   link-in i n p = ap (λ (b : Bool). choose {A = ℕ} b (getD (recordAt f words (leaf-place n)) i 0) 0) p
 
@@ -212,7 +212,7 @@ module _ (f : Frame) (words keys : List ℕ) where
       )
       go false = refl
 
-  -- ---- a child of a row, after the first
+  -- ── a child of a row, after the first ──
   more-step : (e w b : ℕ) (x : Way) (o : Option (ℕ × State)) → Same x o → (w ≡ 0 → ⊥) → e < length (tagAt f words keys w) → (k : ℕ → List ℕ → Seen → Way) (q : State → Option State)
       → ((m : List ℕ) (s : Seen) (z : State) → Tally m s z → SameRow w (k w m s) (q z))
       → SameRow w (wayOn (childEnd f words keys e b w (x .visit)) (x .marks) k) (and-then o (λ h. ite (goes-on e (tagAt f words keys w) b (tagAt f words keys (h .0))) (q (h .1)) none))
@@ -238,7 +238,7 @@ module _ (f : Frame) (words keys : List ℕ) where
       (subst (λ (d : ℕ). Same (g (c .1) (e + 1) m s) (go d (placeAt (c .1)) z)) (add-one e) (a (c .1) (e + 1) m s z t)) n l
       (λ u m′ s′. rowBy f words keys g e u cs m′ s′) (λ z′. probe-more byRef (places cs) e w (λ y u. go (suc e) y u) z′) (λ m′ s′ z′ t′. more-same g go a cs e w m′ s′ z′ n l t′)
 
-  -- ---- a row
+  -- ── a row ──
   row-up : (w : ℕ) (x : Way) (o : Option State) → (w ≡ 0 → ⊥) → SameRow w x o → Same x (and-then o (λ z. some (w, z)))
   row-up w x none n h = h
   row-up w x (some z) n h = (h .0, h .1, n, h .2)
@@ -271,7 +271,7 @@ module _ (f : Frame) (words keys : List ℕ) where
       (subst (λ (d : ℕ). Same (g (c .1) (e + 1) m s) (go d (placeAt (c .1)) z)) (add-one e) (a (c .1) (e + 1) m s z t))
       (λ u m′ s′. rowBy f words keys g e u cs m′ s′) (λ w z′. probe-more byRef (places cs) e w (λ y u. go (suc e) y u) z′) (λ w m′ s′ z′ n l t′. more-same g go a cs e w m′ s′ z′ n l t′)
 
-  -- ---- a record's end
+  -- ── a record's end ──
   end-same : (row : Row) (d : ℕ) (x : Way) (o : Option (ℕ × State)) → Same x o → (rec : List ℕ) → rec ≡ innerRec (f .form) words (row .kind) (row .start)
       → Same (way (recordEnd f words keys row d (x .visit)) (x .marks)) (and-then o (λ h. probe-run byRef d (getD rec 2 0) (held (prefixAt (f .form) rec)) h))
   end-same row d x none h rec e = sym (record-ill f words keys row d h)
@@ -285,7 +285,7 @@ module _ (f : Frame) (words keys : List ℕ) where
       go (yes a) = (i .0, sym (record-well f words keys row d (i .1) (sym agreed ∙ stored-yes d (f .form) rec (tagAt f words keys (h .0)) a)), i .2, i .3)
       go (no a) = sym (record-parts f words keys row d (i .1) (not-true (λ g. a (stored-no d (f .form) rec (tagAt f words keys (h .0)) (agreed ∙ g)))))
 
-  -- ---- a record
+  -- ── a record ──
   abbrev link : ℕ → ℕ → Bool
   link = follows (linksOf f words)
 

@@ -23,7 +23,7 @@ use Rattle.art.specs.Stores.{leaf-place}
 use Rattle.whole.specs.Witness.{LeafSeen, lengthAt, tagAt, goesOn, storedAgrees}
 use Rattle.tree.proofs.Arrivals.{leaf-named, leaf-in}
 
--- ---- a leaf that was seen
+-- ── a leaf that was seen ──
 module _ {f : Frame} {words keys : List ℕ} {ref : ℕ} (l : LeafSeen f words keys ref) where
   pub seen-pool : inPool f (placeAt ref) ≡ true
   seen-pool = ap (inPool f) (leaf-named ref (l .kind)) ∙ l .pool
@@ -50,7 +50,7 @@ seen-tag f words keys ref n e h =
     let q : a + n - a ≡ lengthAt f words ref = omega arith in
     sym (between-front keys a (a + n) (a + f .form .limit) (omega arith)) ∙ ap (λ (k : ℕ). take k (keyAt f keys (ref / 8))) q
 
--- ---- two tags
+-- ── two tags ──
 module _ (e : ℕ) (w : List ℕ) (byte : ℕ) (t : List ℕ) where
   pub goes-by : {n : ℕ} → e < length t → n ≡ shared w t → leb e n && eqb (getD t e 0) byte ≡ goesOn e w byte t
   unfolding goesOn
@@ -61,7 +61,7 @@ module _ (e : ℕ) (w : List ℕ) (byte : ℕ) (t : List ℕ) where
   unfolding goesOn
   goes-out h = ap (λ (b : Bool). b && (leb e (shared w t) && eqb (getD t e 0) byte)) (sym (le-ltb e (length t) h))
 
--- ---- a prefix and a tag
+-- ── a prefix and a tag ──
 module _ (depth : ℕ) (p : Prefix) (w : List ℕ) where
   pub stored-short : {k : ℕ} → length w < depth → k ≡ capped (p .full .0) → eqb 0 k ≡ storedAgrees depth p w
   unfolding storedAgrees

@@ -57,7 +57,7 @@ numberOf Sound = 0
 numberOf Damaged = 6
 numberOf ShortScratch = 7
 
--- past the test for 7, scratch is left with n zeros in front
+-- once it is long enough, scratch ends with n zeros in front
 abbrev pub cleared : ℕ → List ℕ → List ℕ
 cleared n scratch = replicate n 0 ++ drop n scratch
 

@@ -1,4 +1,4 @@
--- The check's way, by turns from a record to its row of children, with the marks as it leaves them.
+-- The check's way, a record and its children by turns, with the marks as it leaves them.
 use Prim.Native.Nat.{ℕ, zero, suc, _+_, _*_, _≤_}
 use mathlib.Core.List.{List, [], _∷_}
 use mathlib.Core.Bool.{_&&_}
