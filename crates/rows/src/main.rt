@@ -132,7 +132,7 @@ fn say_record(rec: &[u32], form: Form, kind: u32)
     say(b", prefix ");
     say_prefix(records::header::prefix_at(form, rec));
     say(b", ");
-    say_number(records::header::child_count(rec));
+    say_number(rec[records::header::CHILDREN]);
     say(b" children:");
     say_row(rec, form, kind);
 }
@@ -266,7 +266,7 @@ fn add(rec: &mut [u32], form: Form, kind: u32, byte: u8, reference: u32) -> bool
     requires { ⌜ InnerFits form kind (now rec) ⌝ }
 {
     let row = kind::row_of(kind);
-    let n = records::header::child_count(rec);
+    let n = rec[records::header::CHILDREN];
     if row.children <= n {
         return false;
     }
@@ -298,7 +298,7 @@ fn replace(rec: &mut [u32], form: Form, kind: u32, byte: u8, reference: u32) -> 
 fn remove(rec: &mut [u32], form: Form, kind: u32, byte: u8) -> bool
     requires { ⌜ InnerFits form kind (now rec) ⌝ }
 {
-    if records::header::child_count(rec) <= 2 {
+    if rec[records::header::CHILDREN] <= 2 {
         return false;
     }
     if child_at(rec, form, kind, byte) == 0 {
