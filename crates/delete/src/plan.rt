@@ -9,7 +9,6 @@ ghost use Rattle.records.specs.Row.{rowAt};
 ghost use Rattle.art.specs.Stores.{leaf-place};
 ghost use Rattle.points.specs.There.{InnerHere, UpThere, PointThere};
 ghost use Rattle.delete.specs.Plan.{otherEntry, mergeCut, shrinkCut, cutUnder, cutOf, gapOf, pointPlan, planOf};
-use frames::form;
 use frames::form::Form;
 use frames::frame;
 use frames::frame::Frame;
@@ -59,9 +58,8 @@ fn merge_cut(words: &[u32], keys: &[u8], f: Frame, upper: Up, reference: u32, by
     requires { ⌜ FrameOf f (now words) (now keys) × InnerHere f (now words) (placeAt reference) ⌝ }
     ensures { λ r. ⌜ r ≡ mergeCut upper reference byte (otherEntry byte (rowAt (f .form) (reference % 8) (recordAt f (now (words .entry)) (placeAt reference)))) ⌝ }
 {
-    let start = frame::start_at(f, reference);
-    let e = start + form::record_words(f.form, reference % 8);
-    let entry = other_entry(f.form, &words[start..e], reference % 8, byte);
+    let rec = places::inner_at(words, keys, f, reference);
+    let entry = other_entry(f.form, rec, reference % 8, byte);
     let Entry::Child(b, child) = entry else {
         return Cut::Stay(reference, byte);
     };

@@ -1,12 +1,12 @@
-// Records by their references: how many children one has, the words of a leaf, its total, and the reference to a record.
+// Records by their references: the words of an inner record and its child count, those of a leaf and its total, and the reference to a record.
 ghost use mathlib.Core.Path.{_≡_};
 ghost use mathlib.Core.Bool.{true};
-ghost use Prim.Native.Nat.{_≤_, _+_, _*_};
+ghost use Prim.Native.Nat.{_≤_, _+_, _*_, _%_};
 ghost use lib.ListN.{length};
 ghost use Rattle.frames.specs.Frame.{FrameOf};
 ghost use Rattle.frames.specs.Place.{placeAt, inPool, recordAt};
 ghost use Rattle.records.specs.Words.{childCount};
-ghost use Rattle.records.specs.Own.{totalOf};
+ghost use Rattle.records.specs.Own.{InnerFits, totalOf};
 ghost use Rattle.art.specs.Stores.{leaf-place};
 ghost use Rattle.points.specs.There.{InnerHere};
 use frames::form;
@@ -23,14 +23,22 @@ pub fn reference_to(kind: u32, number: usize) -> u32
     number as u32 * 8 + kind
 }
 
-// How many children an inner record has.
+// The words of an inner record.
+pub fn inner_at<'a>(words: &'a [u32], keys: &[u8], f: Frame, reference: u32) -> &'a [u32]
+    requires { ⌜ FrameOf f (now words) (now keys) × InnerHere f (now words) (placeAt reference) ⌝ }
+    ensures { λ r. ⌜ (now r ≡ recordAt f (now (words .entry)) (placeAt reference)) × InnerFits (f .form) (reference % 8) (now r) ⌝ }
+{
+    let start = frame::start_at(f, reference);
+    let e = start + form::record_words(f.form, reference % 8);
+    &words[start..e]
+}
+
+// How many children it has.
 pub fn children_at(words: &[u32], keys: &[u8], f: Frame, reference: u32) -> u32
     requires { ⌜ FrameOf f (now words) (now keys) × InnerHere f (now words) (placeAt reference) ⌝ }
     ensures { λ r. ⌜ r ≡ childCount (recordAt f (now (words .entry)) (placeAt reference)) ⌝ }
 {
-    let start = frame::start_at(f, reference);
-    let e = start + form::record_words(f.form, reference % 8);
-    header::child_count(&words[start..e])
+    header::child_count(inner_at(words, keys, f, reference))
 }
 
 // The words of a leaf, by its number.
