@@ -13,6 +13,9 @@ use super::form::Sizes;
 // A leaf's kind, in a reference and among the pools.
 pub const LEAF: u32 = 5;
 
+// Where the capacity of the leaves stands among the capacities, which go by the kind.
+pub const LEAVES: usize = 5;
+
 // The words of the trailer that change: the root's reference, those of the first and the last leaf, the tag count.
 pub const ROOT: usize = 11;
 

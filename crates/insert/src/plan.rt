@@ -149,7 +149,7 @@ fn leaf_plan(words: &[u32], keys: &[u8], f: Frame, tag: &[u8], choice: Choice) -
 {
     let caps = f.caps;
     let n = lowest_free(words, keys, f, frame::LEAF as usize);
-    if n < caps[5] {
+    if n < caps[frame::LEAVES] {
         return site_plan(words, keys, f, tag, n as u32, choice);
     }
     Plan::NoLeaf

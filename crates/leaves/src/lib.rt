@@ -36,7 +36,7 @@ fn leaf_state(words: &[u32], keys: &[u8], f: Frame, number: u32) -> LeafState
     ensures { λ r. ⌜ r ≡ leafState f (now (words .entry)) (now (keys .entry)) number ⌝ }
 {
     let caps = f.caps;
-    if caps[5] <= number as usize {
+    if caps[frame::LEAVES] <= number as usize {
         return LeafState::NoLeaf;
     }
     let reference = number * 8 + frame::LEAF;

@@ -58,7 +58,7 @@ fn joined(s: &[u32], t: &[u32]) -> [u32; 8]
 }
 
 // The prefix without its first `n` bytes, where all of it is stored.
-pub fn ltrim_by(p: Prefix, n: u32) -> Prefix
+fn ltrim_by(p: Prefix, n: u32) -> Prefix
     requires { ⌜ ((n ≤ p .full .0) × (p .full .0 ≤ 8)) × (length (p .stored) ≡ 8) ⌝ }
     ensures { λ r. ⌜ r ≡ ltrimOf p n ⌝ }
 {
@@ -88,7 +88,7 @@ pub fn split(p: Prefix, n: u32, leaf: &[u8], depth: usize) -> Prefix
 }
 
 // The prefix with `len` more bytes, of which these are the first; the stored ones go on after the stored ones.
-pub fn push_prefix(p: Prefix, new: &[u32], len: u32) -> Prefix
+fn push_prefix(p: Prefix, new: &[u32], len: u32) -> Prefix
     requires { ⌜ (p .full .0 + len < 2 ^ 32) × (length (p .stored) ≡ 8) ⌝ }
     ensures { λ r. ⌜ r ≡ pushOf p (now (new .entry)) len ⌝ }
 {

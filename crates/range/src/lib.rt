@@ -104,7 +104,7 @@ pub fn after_first(words: &[u32], keys: &[u8], f: Frame, tag: &[u8]) -> After
     ensures { λ r. ⌜ r ≡ afterFirst f (now (words .entry)) (now (keys .entry)) (now (tag .entry)) ⌝ }
 {
     let caps = f.caps;
-    let mut left: usize = caps[5] + 1;
+    let mut left: usize = caps[frame::LEAVES] + 1;
     let mut reference = frame::trailer_word(words, frame::FIRST);
     while 0 < left {
         let s = step_at(words, keys, f, tag, reference);

@@ -75,7 +75,7 @@ fn eight(s: &[u32], a: usize) -> [u32; 8]
 }
 
 // The eight stored prefix bytes, one a word, after the count below.
-pub fn stored_of(form: Form, rec: &[u32]) -> [u32; 8]
+fn stored_of(form: Form, rec: &[u32]) -> [u32; 8]
     ensures { λ r. ⌜ r ≡ storedOf form (now (rec .entry)) ⌝ }
 {
     let a = 3 + form.counts as usize;

@@ -23,7 +23,7 @@ pub enum Entry {
 }
 
 // The body's part of the own rule.
-pub fn body_ok(body: &[u32], kind: u32, n: usize) -> bool
+fn body_ok(body: &[u32], kind: u32, n: usize) -> bool
     requires { ⌜ ((1 ≤ kind) × (kind ≤ 4)) × ((length (now body) ≡ bodyWords kind) × (n ≤ childrenOf kind)) ⌝ }
     ensures { λ r. ⌜ r ≡ bodyOk kind (now (body .entry)) n ⌝ }
 {
