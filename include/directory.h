@@ -20,8 +20,9 @@
  * The words, key bytes, scratch and tag of one call must not overlap, and each pointer must be aligned and good for its count. To insert or delete a tag that
  * directory_leaf_tag showed, copy it out of the key bytes first.
  *
- * Check, first-at-or-after, insert and delete look at the whole directory, and use the stack for it: 5 KB and some 900 bytes for each level of the tree, or 7 KB
- * where that is more. That is 7 KB for 256 one-byte tags and 63 KB for the deepest tree that there can be (measured, not proved).
+ * Check, first-at-or-after, insert and delete look at the whole directory, and use the stack for it: 5 KB and some 900 bytes for each level of the tree. That is
+ * 6 KB for 256 one-byte tags and 63 KB for the deepest tree that there can be (measured, not proved; where the system looks up memcpy at its first call, that
+ * call takes some 1,400 bytes more).
  */
 #ifndef DIRECTORY_H
 #define DIRECTORY_H
