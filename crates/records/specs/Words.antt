@@ -1,4 +1,4 @@
--- The words of a record by their names. Above this crate a word of a record is read, written and spoken of by its name, not by its number.
+-- The words of a record by their names. Definitions above this crate speak of a word by its name, not by its number.
 use Prim.Native.Nat.{ℕ}
 use mathlib.Core.List.{List}
 use lib.ListN.{getD, set}
