@@ -29,7 +29,7 @@ use Rattle.insert.proofs.Sounds.{insert-grown}
 use Rattle.insert.proofs.Overs.{over-altered}
 use Rattle.delete.specs.Delete as delete-call
 use Rattle.delete.proofs.Sounds.{delete-without}
-use Rattle.demands.specs.Calls.{Call, start, search, prefix-search, minimum, maximum, next-leaf, leaf-facts, leaf-tag, check, first-at-or-after, insert, delete, numberOf, run}
+use Rattle.demands.specs.Calls.{Call, start, query, ask, edit, insert, delete, numberOf, run}
 use Rattle.demands.specs.Histories.{Block, Turn, lent, answered, next, after-all, CallBytes, AllBytes}
 use Rattle.demands.specs.Frames.{NoStart}
 use Rattle.demands.proofs.Cases.{insert-cases, delete-cases}
@@ -95,17 +95,10 @@ module _ (b : Block) (k : Kept (b .words) (b .keys)) (bytes : Bytes (b .keys)) w
     where
       go : (c : Call) → CallBytes c → AmpleCall c (lent b t) → let o = run c (record { words = b .words; keys = b .keys; scratch = t .scratch }) .slices in Kept (o .words) (o .keys)
       go (start c) h a = start-keeps c a
-      go (search u) h a = k
-      go (prefix-search u) h a = k
-      go minimum h a = k
-      go maximum h a = k
-      go (next-leaf n) h a = k
-      go (leaf-facts n) h a = k
-      go (leaf-tag n) h a = k
-      go check h a = k
-      go (first-at-or-after u) h a = k
-      go (insert u total) h a = framed (insert u total) (t .scratch) tt h (insert-tight (b .words) (b .keys) (k .tight) (k .ample) (t .scratch) u total h bytes)
-      go (delete u) h a = framed (delete u) (t .scratch) tt h (delete-tight (b .words) (b .keys) (k .tight) (k .ample) (t .scratch) u h)
+      go (query q) h a = k
+      go (ask q) h a = k
+      go (edit (insert u total)) h a = framed (edit (insert u total)) (t .scratch) tt h (insert-tight (b .words) (b .keys) (k .tight) (k .ample) (t .scratch) u total h bytes)
+      go (edit (delete u)) h a = framed (edit (delete u)) (t .scratch) tt h (delete-tight (b .words) (b .keys) (k .tight) (k .ample) (t .scratch) u h)
 
 -- ── any calls ──
 all-kept : (b : Block) → Kept (b .words) (b .keys) → Bytes (b .keys) → (ts : List Turn) → AllBytes ts → AmpleStarts b ts → Kept (after-all b ts .words) (after-all b ts .keys)
@@ -144,6 +137,6 @@ module _ (b : Block) (c : Caps) (scratch : List ℕ) (done : startOf (b .words) 
   ample-tight = last-kept .tight
 
   -- and no insert gives 5
-  pub ample-never-five : (tag : Tag) (total : ℕ) (more : List ℕ) → Bytes tag → numberOf (answered last (record { call = insert tag total; scratch = more })) ≢ some 5
+  pub ample-never-five : (tag : Tag) (total : ℕ) (more : List ℕ) → Bytes tag → numberOf (answered last (record { call = edit (insert tag total); scratch = more })) ≢ some 5
   ample-never-five tag total more tag-bytes =
-      not-five (lent last (record { call = insert tag total; scratch = more })) tag total tag-bytes (λ z. tight-never-lacks z tag tag-bytes ample-tight ample-frame)
+      not-five (lent last (record { call = edit (insert tag total); scratch = more })) tag total tag-bytes (λ z. tight-never-lacks z tag tag-bytes ample-tight ample-frame)

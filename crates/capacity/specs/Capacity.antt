@@ -42,17 +42,9 @@ AmpleCaps c = Ample (c .c1) (c .c2) (c .c3) (c .c4) (c .c5)
 -- a start that is accepted has such capacities
 abbrev pub AmpleCall : Call → Slices → Type 0
 AmpleCall (calls.start c) s = startOf (s .words) (s .keys) c .answer ≡ started.Done → AmpleCaps c
-AmpleCall (calls.search t) s = Unit {0}
-AmpleCall (calls.prefix-search t) s = Unit {0}
-AmpleCall calls.minimum s = Unit {0}
-AmpleCall calls.maximum s = Unit {0}
-AmpleCall (calls.next-leaf n) s = Unit {0}
-AmpleCall (calls.leaf-facts n) s = Unit {0}
-AmpleCall (calls.leaf-tag n) s = Unit {0}
-AmpleCall calls.check s = Unit {0}
-AmpleCall (calls.first-at-or-after t) s = Unit {0}
-AmpleCall (calls.insert t total) s = Unit {0}
-AmpleCall (calls.delete t) s = Unit {0}
+AmpleCall (calls.query q) s = Unit {0}
+AmpleCall (calls.ask a) s = Unit {0}
+AmpleCall (calls.edit e) s = Unit {0}
 
 -- each start among these calls that is accepted, on the block that those before it leave, has such capacities
 abbrev pub AmpleStarts : Block → List Turn → Type 0

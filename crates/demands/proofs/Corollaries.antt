@@ -35,9 +35,10 @@ use Rattle.delete.specs.Answer as delete-answer
 use Rattle.delete.specs.Delete as delete-call
 use Rattle.delete.specs.declared.answer.Deleted.{Deleted}
 use Rattle.delete.specs.declared.answer.Deleted.the-variants as deleted
-use Rattle.demands.specs.Histories.{Block, next, leaves, nothing, insertChange, deleteChange, changeOf, totals, amended, CallBytes}
+use Rattle.demands.specs.Calls.{Edit, insert, delete, edit}
+use Rattle.demands.specs.Histories.{Block, next, leaves, nothing, insertChange, deleteChange, tagOf, changeOf, totals, amended, CallBytes}
 use Rattle.demands.specs.Drawn.{drawing}
-use Rattle.demands.specs.Accepts.{Edit, insert, delete, tagOf, callOf, turn, Accepted, effect, done}
+use Rattle.demands.specs.Accepts.{turn, Accepted, effect, done}
 use Rattle.demands.proofs.Changes.{frame-limit, insert-sound, over-held}
 use Rattle.demands.proofs.Cases.{insert-cases, delete-cases}
 use Rattle.demands.proofs.Totals.{total-of, totals-sorted, totals-lookup}
@@ -114,19 +115,15 @@ module _ {words keys : List ℕ} (s : Sound words keys) where
       delete-cases words keys tag (λ o. delete-answer.numberOf (o .answer) ≡ 0 → deleteChange tag (o .answer) ≡ leaves tag) (λ a r e z. absurd (refused-delete tag a e z)) (λ r t cut n gap e z. refl) scratch
 
   does : (e : Edit) (scratch : List ℕ) → Bytes (tagOf e) → Bytes keys → Accepted (record { words = words; keys = keys }) e scratch
-      → changeOf (callOf e) (record { words = words; keys = keys; scratch = scratch }) ≡ effect e (lookup (tagOf e) holds)
+      → changeOf (edit e) (record { words = words; keys = keys; scratch = scratch }) ≡ effect e (lookup (tagOf e) holds)
   does (insert tag total) scratch h k a = insert-does scratch tag total h k (some-inj a)
   does (delete tag) scratch h k a = delete-does scratch tag (some-inj a)
-
-edit-bytes : (e : Edit) → Bytes (tagOf e) → CallBytes (callOf e)
-edit-bytes (insert tag total) h = h
-edit-bytes (delete tag) h = h
 
 -- an accepted insert or delete leaves a sound block with what it makes of the listing
 pub edit-sound : (b : Block) (s : Sound (b .words) (b .keys)) → Bytes (b .keys) → (e : Edit) (scratch : List ℕ) → Bytes (tagOf e) → Accepted b e scratch
     → (t : Sound (next b (turn e scratch) .words) (next b (turn e scratch) .keys)) × (totals (held (t .tree)) ≡ done e (totals (held (s .tree))))
 edit-sound b s k e scratch h a =
-    let z = step-sound b s k (turn e scratch) (edit-bytes e h) in
+    let z = step-sound b s k (turn e scratch) h in
     (z .0, z .1 ∙ ap (amended (totals (held (s .tree)))) (does s e scratch h k a))
 
 -- ── on listings ──
@@ -163,9 +160,9 @@ pub either-order : (b : Block) → Sound (b .words) (b .keys) → Bytes (b .keys
     (s : Sound (xy .words) (xy .keys)) (t : Sound (yx .words) (yx .keys)) → drawing (s .tree) ≡ drawing (t .tree)
 either-order b z k x y h i ne p q p′ q′ a c a′ c′ s t =
     let first = edit-sound b z k x p h a in
-    let second = edit-sound (next b (turn x p)) (first .0) (step-bytes b k (turn x p) (edit-bytes x h)) y q i c in
+    let second = edit-sound (next b (turn x p)) (first .0) (step-bytes b k (turn x p) h) y q i c in
     let first′ = edit-sound b z k y q′ i a′ in
-    let second′ = edit-sound (next b (turn y q′)) (first′ .0) (step-bytes b k (turn y q′) (edit-bytes y i)) x p′ h c′ in
+    let second′ = edit-sound (next b (turn y q′)) (first′ .0) (step-bytes b k (turn y q′) i) x p′ h c′ in
     let order = totals-sorted (held (z .tree)) (held-sorted (z .tree) (z .good)) in
     ap drawing (one-tree s (second .0))
     ∙ drawn-same (second .0) (second′ .0) (second .1 ∙ ap (done y) (first .1) ∙ done-done x y ne (totals (held (z .tree))) order ∙ sym (second′ .1 ∙ ap (done x) (first′ .1)))

@@ -18,7 +18,7 @@ use Rattle.frames.proofs.Frames.{totals}
 use Rattle.reading.specs.Answers.{Bytes}
 use Rattle.insert.specs.Insert as insert-call
 use Rattle.delete.specs.Delete as delete-call
-use Rattle.demands.specs.Calls.{Call, start, search, prefix-search, minimum, maximum, next-leaf, leaf-facts, leaf-tag, check, first-at-or-after, insert, delete, Slices, run}
+use Rattle.demands.specs.Calls.{Call, start, query, ask, edit, insert, delete, Slices, run}
 use Rattle.demands.specs.Histories.{Block, Turn, lent, next, after-all, CallBytes, AllBytes}
 use Rattle.demands.specs.Frames.{frameWords, FrameKept, NoStart, NoStarts}
 use Rattle.demands.proofs.Changes.{frame-limit, insert-sound, insert-frame, over-sound, over-frame, delete-sound, delete-frame}
@@ -73,7 +73,7 @@ fits-same words keys words′ keys′ fits fits′ e =
 kept : (words keys : List ℕ) → FrameKept words keys words keys
 kept words keys = record { trailer = refl; words-long = refl; keys-long = refl }
 
-insert-kept : (words keys scratch tag : List ℕ) (total : ℕ) → CallBytes (insert tag total) → Bytes keys
+insert-kept : (words keys scratch tag : List ℕ) (total : ℕ) → CallBytes (edit (insert tag total)) → Bytes keys
     → let o = insert-call.insertOf words keys scratch tag total in FrameKept words keys (o .words) (o .keys)
 insert-kept words keys scratch tag total bytes key-bytes =
     insert-cases words keys tag total (λ o. FrameKept words keys (o .words) (o .keys)) (λ a r e. kept words keys)
@@ -82,7 +82,7 @@ insert-kept words keys scratch tag total bytes key-bytes =
     fits-same _ _ _ _ (s .fits) (insert-sound s tag bytes key-bytes fits e total .0 .fits) (insert-frame s tag bytes key-bytes fits e total))
     (λ r s leaf e. fits-same _ _ _ _ (s .fits) (over-sound s tag bytes e total .0 .fits) (over-frame s tag bytes e total)) scratch
 
-delete-kept : (words keys scratch tag : List ℕ) → CallBytes (delete tag)
+delete-kept : (words keys scratch tag : List ℕ) → CallBytes (edit (delete tag))
     → let o = delete-call.deleteOf words keys scratch tag in FrameKept words keys (o .words) (o .keys)
 delete-kept words keys scratch tag bytes =
     delete-cases words keys tag (λ o. FrameKept words keys (o .words) (o .keys)) (λ a r e. kept words keys)
@@ -91,17 +91,10 @@ delete-kept words keys scratch tag bytes =
 -- calls after start never change the frame, whatever the memory holds
 pub frame-kept : (c : Call) → NoStart c → CallBytes c → (s : Slices) → Bytes (s .keys) → FrameKept (s .words) (s .keys) (run c s .slices .words) (run c s .slices .keys)
 frame-kept (start c) h b s k = absurd h
-frame-kept (search t) h b s k = kept (s .words) (s .keys)
-frame-kept (prefix-search t) h b s k = kept (s .words) (s .keys)
-frame-kept minimum h b s k = kept (s .words) (s .keys)
-frame-kept maximum h b s k = kept (s .words) (s .keys)
-frame-kept (next-leaf n) h b s k = kept (s .words) (s .keys)
-frame-kept (leaf-facts n) h b s k = kept (s .words) (s .keys)
-frame-kept (leaf-tag n) h b s k = kept (s .words) (s .keys)
-frame-kept check h b s k = kept (s .words) (s .keys)
-frame-kept (first-at-or-after t) h b s k = kept (s .words) (s .keys)
-frame-kept (insert t total) h b s k = insert-kept (s .words) (s .keys) (s .scratch) t total b k
-frame-kept (delete t) h b s k = delete-kept (s .words) (s .keys) (s .scratch) t b
+frame-kept (query q) h b s k = kept (s .words) (s .keys)
+frame-kept (ask a) h b s k = kept (s .words) (s .keys)
+frame-kept (edit (insert t total)) h b s k = insert-kept (s .words) (s .keys) (s .scratch) t total b k
+frame-kept (edit (delete t)) h b s k = delete-kept (s .words) (s .keys) (s .scratch) t b
 
 -- ── any calls but start ──
 pub frames-kept : (b : Block) → Bytes (b .keys) → (ts : List Turn) → NoStarts ts → AllBytes ts → FrameKept (b .words) (b .keys) (after-all b ts .words) (after-all b ts .keys)

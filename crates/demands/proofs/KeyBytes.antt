@@ -18,7 +18,7 @@ use Rattle.pointed.proofs.Points.{tag-bytes}
 use Rattle.writes.specs.Leaf.{keyOut}
 use Rattle.insert.proofs.Ready.{bytes-all}
 use Rattle.insert.proofs.KeyBytes.{key-in-bytes}
-use Rattle.demands.specs.Calls.{Call, start, search, prefix-search, minimum, maximum, next-leaf, leaf-facts, leaf-tag, check, first-at-or-after, insert, delete, Slices, run}
+use Rattle.demands.specs.Calls.{Call, start, query, ask, edit, insert, delete, Slices, run}
 use Rattle.demands.specs.Histories.{Block, Turn, next, CallBytes}
 use Rattle.demands.proofs.Cases.{either, refused-done, insert-cases, delete-cases}
 
@@ -44,18 +44,11 @@ start-bytes words keys c =
 
 bytes-by : (c : Call) (s : Slices) → Bytes (s .keys) → CallBytes c → Bytes (run c s .slices .keys)
 bytes-by (start c) s k h = start-by (s .words) (s .keys) c k
-bytes-by (search t) s k h = k
-bytes-by (prefix-search t) s k h = k
-bytes-by minimum s k h = k
-bytes-by maximum s k h = k
-bytes-by (next-leaf n) s k h = k
-bytes-by (leaf-facts n) s k h = k
-bytes-by (leaf-tag n) s k h = k
-bytes-by check s k h = k
-bytes-by (first-at-or-after t) s k h = k
-bytes-by (insert t total) s k h =
+bytes-by (query q) s k h = k
+bytes-by (ask a) s k h = k
+bytes-by (edit (insert t total)) s k h =
     insert-cases (s .words) (s .keys) t total (λ o. Bytes (o .keys)) (λ a r e. k) (λ r q short site n gap e. key-in-bytes (frame (s .words)) n t (s .keys) h k) (λ r q leaf e. k) (s .scratch)
-bytes-by (delete t) s k h = delete-cases (s .words) (s .keys) t (λ o. Bytes (o .keys)) (λ a r e. k) (λ r q cut n gap e. key-out-bytes (frame (s .words)) n (s .keys) k) (s .scratch)
+bytes-by (edit (delete t)) s k h = delete-cases (s .words) (s .keys) t (λ o. Bytes (o .keys)) (λ a r e. k) (λ r q cut n gap e. key-out-bytes (frame (s .words)) n (s .keys) k) (s .scratch)
 
 -- key bytes stay bytes in every call
 pub step-bytes : (b : Block) → Bytes (b .keys) → (t : Turn) → CallBytes (t .call) → Bytes (next b t .keys)

@@ -61,7 +61,7 @@ use Rattle.delete.specs.declared.answer.Deleted.{Deleted}
 use Rattle.delete.specs.declared.plan.Plan as delete-plans
 use Rattle.delete.specs.declared.plan.Plan.the-variants as gone
 use Rattle.delete.proofs.Answers as delete-answers
-use Rattle.demands.specs.Calls.{Call, start, search, prefix-search, minimum, maximum, next-leaf, leaf-facts, leaf-tag, check, first-at-or-after, insert, delete, Slices, number}
+use Rattle.demands.specs.Calls.{Call, start, query, ask, edit, search, prefix-search, minimum, maximum, next-leaf, leaf-facts, leaf-tag, check, first-at-or-after, insert, delete, Slices, number}
 use Rattle.demands.specs.Histories.{CallBytes}
 use Rattle.demands.specs.Due as due
 use Rattle.demands.specs.Due.{Unframed, Fitting, Short, Unsound, Passed, holds, InUse, obeys, nextRef, namesLeaf, nextNamed, Due}
@@ -171,6 +171,7 @@ over-number s t total bytes fits p e =
     ap insert-answer.numberOf (inserts-listed s t total bytes fits p .over (o .0) (o .1))
 
 pub due-number : {c : Call} {s : Slices} {n : ℕ} → CallBytes c → Due c s n → number c s ≡ some n
+unfolding afterOf
 due-number b (due.start-refused {c} {s} e) = ap some (start-number s c false e)
 due-number b (due.start-done {c} {s} e) = ap some (start-number s c true e)
 due-number b (due.search-unframed {t} {s} e) = ap (λ (a : Found). some (foundNumber a)) (unframed-is s e _ _)
@@ -271,16 +272,16 @@ by-leaf {c} s n no-frame outside unused broken good =
     go true p true q false i false j = (6, broken (record { fits = p; pool = q; used = eqb-false word 0 i }) j)
     go true p true q false i true j = good (record { fits = p; pool = q; used = eqb-false word 0 i }) j
 
-next-row : (s : Slices) (n : ℕ) → InUse s n → obeys s n ≡ true → Row (next-leaf n) s
+next-row : (s : Slices) (n : ℕ) → InUse s n → obeys s n ≡ true → Row (query (next-leaf n)) s
 next-row s n u r = go (eqb (nextRef s n) 0) refl (nextNamed s (nextRef s n)) refl
   where
-    go : (b : Bool) → eqb (nextRef s n) 0 ≡ b → (d : Bool) → nextNamed s (nextRef s n) ≡ d → Row (next-leaf n) s
+    go : (b : Bool) → eqb (nextRef s n) 0 ≡ b → (d : Bool) → nextNamed s (nextRef s n) ≡ d → Row (query (next-leaf n)) s
     go true e d i = (1, due.next-end u r (eqb-true (nextRef s n) 0 e))
     go false e true i = (0, due.next-done u r (eqb-false (nextRef s n) 0 e) i)
     go false e false i = (6, due.next-unnamed u r (eqb-false (nextRef s n) 0 e) i)
 
 plan-row : (s : Slices) (t : Tag) (total : ℕ) → length t ≤ formOf 1 .limit → (p : Passed s) (q : Plan)
-    → room.Answers (judge t (holds (p .sound))) (room.LeavesFull (frame (s .words)) (store-of (p .sound .tree))) (room.Lacking (frame (s .words)) (p .sound .tree) t) q → Row (insert t total) s
+    → room.Answers (judge t (holds (p .sound))) (room.LeavesFull (frame (s .words)) (store-of (p .sound .tree))) (room.Lacking (frame (s .words)) (p .sound .tree) t) q → Row (edit (insert t total)) s
 plan-row s t total l p (new.Over leaf) h = (0, due.insert-over l p h)
 plan-row s t total l p (new.New site n gap) h = (0, due.insert-new l p (h .0) (h .1) (h .2))
 plan-row s t total l p new.Clash h = (3, due.insert-clash l p h)
@@ -288,7 +289,7 @@ plan-row s t total l p new.NoLeaf h = (4, due.insert-full l p (h .0) (h .1))
 plan-row s t total l p new.NoRecord h = (5, due.insert-lacking l p (h .0) (h .1) (h .2))
 plan-row s t total l p new.Broken h = absurd h
 
-insert-row : (s : Slices) (t : Tag) (total : ℕ) → Bytes t → (b : Bool) → ltb (formOf 1 .limit) (length t) ≡ b → Row (insert t total) s
+insert-row : (s : Slices) (t : Tag) (total : ℕ) → Bytes t → (b : Bool) → ltb (formOf 1 .limit) (length t) ≡ b → Row (edit (insert t total)) s
 insert-row s t total bytes true e = (2, due.insert-long (ltb-true (formOf 1 .limit) (length t) e))
 insert-row s t total bytes false e =
     let l : length t ≤ formOf 1 .limit = ltb-false (formOf 1 .limit) (length t) e in
@@ -297,18 +298,18 @@ insert-row s t total bytes false e =
 
 due-row : (c : Call) (s : Slices) (n : ℕ) → CallBytes c → number c s ≡ some n → Row c s
 due-row (start c) s n b i = start-row c s (startFits (formOf 1) c (length (s .words)) (length (s .keys))) refl
-due-row (search t) s n b i = by-frame due.search-unframed (λ e. let m = met (frame (s .words)) (s .words) (s .keys) t Exact in (m .0, due.search-walked e (m .1)))
-due-row (prefix-search t) s n b i = by-frame due.prefix-unframed (λ e. let m = met (frame (s .words)) (s .words) (s .keys) t Begin in (m .0, due.prefix-walked e (m .1)))
-due-row minimum s n b i = by-frame due.minimum-unframed (λ e. let m = ended (frame (s .words)) (s .words) (s .keys) Low in (m .0, due.minimum-walked e (m .1)))
-due-row maximum s n b i = by-frame due.maximum-unframed (λ e. let m = ended (frame (s .words)) (s .words) (s .keys) High in (m .0, due.maximum-walked e (m .1)))
-due-row (next-leaf k) s n b i = by-leaf s k due.next-unframed due.next-outside due.next-free due.next-broken (next-row s k)
-due-row (leaf-facts k) s n b i = by-leaf s k due.facts-unframed due.facts-outside due.facts-free due.facts-broken (λ u r. (0, due.facts-done u r))
-due-row (leaf-tag k) s n b i = let z : _≡_ {A = ℕ} 0 1 = cc in absurd (omega arith)
-due-row check s n b i = by-tests due.check-unframed due.check-short due.check-unsound (λ p. (0, due.check-sound p)) (tested s)
-due-row (first-at-or-after t) s n b i =
+due-row (query (search t)) s n b i = by-frame due.search-unframed (λ e. let m = met (frame (s .words)) (s .words) (s .keys) t Exact in (m .0, due.search-walked e (m .1)))
+due-row (query (prefix-search t)) s n b i = by-frame due.prefix-unframed (λ e. let m = met (frame (s .words)) (s .words) (s .keys) t Begin in (m .0, due.prefix-walked e (m .1)))
+due-row (query minimum) s n b i = by-frame due.minimum-unframed (λ e. let m = ended (frame (s .words)) (s .words) (s .keys) Low in (m .0, due.minimum-walked e (m .1)))
+due-row (query maximum) s n b i = by-frame due.maximum-unframed (λ e. let m = ended (frame (s .words)) (s .words) (s .keys) High in (m .0, due.maximum-walked e (m .1)))
+due-row (query (next-leaf k)) s n b i = by-leaf s k due.next-unframed due.next-outside due.next-free due.next-broken (next-row s k)
+due-row (query (leaf-facts k)) s n b i = by-leaf s k due.facts-unframed due.facts-outside due.facts-free due.facts-broken (λ u r. (0, due.facts-done u r))
+due-row (query (leaf-tag k)) s n b i = let z : _≡_ {A = ℕ} 0 1 = cc in absurd (omega arith)
+due-row (ask check) s n b i = by-tests due.check-unframed due.check-short due.check-unsound (λ p. (0, due.check-sound p)) (tested s)
+due-row (ask (first-at-or-after t)) s n b i =
     by-tests due.after-unframed due.after-short due.after-unsound (λ p. by-found (after t (holds (p .sound))) refl (due.after-missing p) (due.after-found p)) (tested s)
-due-row (insert t total) s n b i = insert-row s t total b (ltb (formOf 1 .limit) (length t)) refl
-due-row (delete t) s n b i =
+due-row (edit (insert t total)) s n b i = insert-row s t total b (ltb (formOf 1 .limit) (length t)) refl
+due-row (edit (delete t)) s n b i =
     by-tests due.delete-unframed due.delete-short due.delete-unsound (λ p. by-found (lookup t (holds (p .sound))) refl (due.delete-missing p) (due.delete-held p)) (tested s)
 
 -- so every number that any call gives, on any block, is given where a row of the table gives it

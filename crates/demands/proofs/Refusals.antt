@@ -21,7 +21,6 @@ use Rattle.whole.specs.Check as check-call
 use Rattle.whole.specs.Check.{checkOf, cleared, wholeBy}
 use Rattle.whole.specs.declared.check.Checked.{Checked}
 use Rattle.whole.specs.declared.check.Checked.the-variants as checked
-use Rattle.range.specs.Range.{afterOf}
 use Rattle.insert.specs.Answer as insert-answer
 use Rattle.insert.specs.Insert as insert-call
 use Rattle.insert.specs.Insert.{insertOf, insertChecked, insertSound, insertBy}
@@ -35,7 +34,7 @@ use Rattle.delete.specs.Delete.{deleteOf, deleteChecked, deleteSound, deleteBy}
 use Rattle.delete.specs.Plan as delete-plan
 use Rattle.delete.specs.declared.plan.Plan as delete-plans
 use Rattle.delete.specs.declared.plan.Plan.the-variants as gone
-use Rattle.demands.specs.Calls.{Call, start, search, prefix-search, minimum, maximum, next-leaf, leaf-facts, leaf-tag, check, first-at-or-after, insert, delete}
+use Rattle.demands.specs.Calls.{Call, start, query, ask, edit, insert, delete}
 use Rattle.demands.specs.Calls.{Slices, run, number}
 use Rattle.demands.specs.Scratch.{enough, leftIn}
 use Rattle.demands.proofs.Cases.{either, insert-cases, delete-cases}
@@ -95,17 +94,10 @@ module _ (words keys tag : List ℕ) where
 -- a refusal changes no word and no key byte, whatever the memory holds
 pub refused-same : (c : Call) (s : Slices) (n : ℕ) → number c s ≡ some n → n ≢ 0 → (run c s .slices .words ≡ s .words) × (run c s .slices .keys ≡ s .keys)
 refused-same (start c) s n e h = start-kept (s .words) (s .keys) c (λ z. h (sym (some-inj e) ∙ z))
-refused-same (search t) s n e h = (refl, refl)
-refused-same (prefix-search t) s n e h = (refl, refl)
-refused-same minimum s n e h = (refl, refl)
-refused-same maximum s n e h = (refl, refl)
-refused-same (next-leaf i) s n e h = (refl, refl)
-refused-same (leaf-facts i) s n e h = (refl, refl)
-refused-same (leaf-tag i) s n e h = (refl, refl)
-refused-same check s n e h = (refl, refl)
-refused-same (first-at-or-after t) s n e h = (refl, refl)
-refused-same (insert t total) s n e h = insert-kept (s .words) (s .keys) (s .scratch) t total (λ z. h (sym (some-inj e) ∙ z))
-refused-same (delete t) s n e h = delete-kept (s .words) (s .keys) (s .scratch) t (λ z. h (sym (some-inj e) ∙ z))
+refused-same (query q) s n e h = (refl, refl)
+refused-same (ask a) s n e h = (refl, refl)
+refused-same (edit (insert t total)) s n e h = insert-kept (s .words) (s .keys) (s .scratch) t total (λ z. h (sym (some-inj e) ∙ z))
+refused-same (edit (delete t)) s n e h = delete-kept (s .words) (s .keys) (s .scratch) t (λ z. h (sym (some-inj e) ∙ z))
 
 -- ── scratch ──
 check-scratch : (s : Slices) → checkOf (s .words) (s .keys) (s .scratch) .scratch ≡ choose (enough s) (cleared (placesIn (frame (s .words))) (s .scratch)) (s .scratch)
@@ -122,7 +114,7 @@ check-scratch s = go (frameFits (s .words) (s .keys)) (ltb (length (s .scratch))
     go true true e = ap (λ (b : Bool). choose b (cleared places (s .scratch)) (s .scratch)) (sym (lt-leb places (length (s .scratch)) (ltb-true (length (s .scratch)) places e)))
     go true false e = ap (λ (b : Bool). choose b (cleared places (s .scratch)) (s .scratch)) (sym (le-leb places (length (s .scratch)) (ltb-false (length (s .scratch)) places e)))
 
-insert-scratch : (t : List ℕ) (total : ℕ) (s : Slices) → insertOf (s .words) (s .keys) (s .scratch) t total .scratch ≡ leftIn (insert t total) s
+insert-scratch : (t : List ℕ) (total : ℕ) (s : Slices) → insertOf (s .words) (s .keys) (s .scratch) t total .scratch ≡ leftIn (edit (insert t total)) s
 unfolding insertOf insertChecked
 insert-scratch t total s = go (ltb (formOf 1 .limit) (length t)) refl
   where
@@ -141,18 +133,11 @@ insert-scratch t total s = go (ltb (formOf 1 .limit) (length t)) refl
 
 -- scratch at exit, of every call: its first bytes 0 past the test for 7, all untouched before
 pub scratch-left : (c : Call) (s : Slices) → run c s .slices .scratch ≡ leftIn c s
-unfolding afterOf deleteOf deleteChecked
+unfolding deleteOf deleteChecked
 scratch-left (start c) s = refl
-scratch-left (search t) s = refl
-scratch-left (prefix-search t) s = refl
-scratch-left minimum s = refl
-scratch-left maximum s = refl
-scratch-left (next-leaf n) s = refl
-scratch-left (leaf-facts n) s = refl
-scratch-left (leaf-tag n) s = refl
-scratch-left check s = check-scratch s
-scratch-left (first-at-or-after t) s = check-scratch s
-scratch-left (insert t total) s = insert-scratch t total s
-scratch-left (delete t) s =
+scratch-left (query q) s = refl
+scratch-left (ask a) s = check-scratch s
+scratch-left (edit (insert t total)) s = insert-scratch t total s
+scratch-left (edit (delete t)) s =
     let c = checkOf (s .words) (s .keys) (s .scratch) in
     delete-scratch-by (s .words) (s .keys) t (c .scratch) (c .result) ∙ check-scratch s

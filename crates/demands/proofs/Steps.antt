@@ -35,7 +35,7 @@ use Rattle.states.proofs.Sounds.{state-sound}
 use Rattle.insert.specs.Insert as insert-call
 use Rattle.insert.specs.Meets.{newTotal}
 use Rattle.delete.specs.Delete as delete-call
-use Rattle.demands.specs.Calls.{Call, start, search, prefix-search, minimum, maximum, next-leaf, leaf-facts, leaf-tag, check, first-at-or-after, insert, delete, Slices, run}
+use Rattle.demands.specs.Calls.{Call, start, query, ask, edit, insert, delete, Slices, run}
 use Rattle.demands.specs.Histories.{Block, Turn, lent, next, Change, nothing, startChange, insertChange, deleteChange, changeOf, totals, amended, Tally, Tallied, counted, CallBytes}
 use Rattle.demands.proofs.Changes.{frame-limit, insert-sound, over-sound, delete-held, delete-sound}
 use Rattle.demands.proofs.Cases.{refused-done, insert-cases, delete-cases}
@@ -97,7 +97,7 @@ module _ {words keys : List ℕ} (s : Sound words keys) where
       go true e = let n = empty-sound (start-empty words keys c e) in (n .0, ap (λ (d : Option (Tree Held)). totals (held d)) (n .1) ∙ ap (λ a. amended list (startChange a)) (sym (start-done words keys c e)))
       go false e = subst AfterStart (sym (start-refused words keys c e)) (same nothing refl)
 
-  insert-step : (scratch tag : List ℕ) (total : ℕ) → CallBytes (insert tag total) → Bytes keys
+  insert-step : (scratch tag : List ℕ) (total : ℕ) → CallBytes (edit (insert tag total)) → Bytes keys
       → let o = insert-call.insertOf words keys scratch tag total in Stepped list (o .words) (o .keys) (insertChange tag total (o .answer))
   insert-step scratch tag total bytes key-bytes =
       insert-cases words keys tag total (λ o. Stepped list (o .words) (o .keys) (insertChange tag total (o .answer))) (λ a r e. same (insertChange tag total a) e)
@@ -106,7 +106,7 @@ module _ {words keys : List ℕ} (s : Sound words keys) where
       (z .0, ap totals (z .1) ∙ totals-put tag (record { number = n; total = total }) (held (s .tree))))
       (λ r t leaf e. let z = over-sound s tag bytes e total in (z .0, ap totals (z .1) ∙ totals-alter (λ h. some (newTotal total h)) (λ x. some total) (λ h. refl) tag (held (s .tree)))) scratch
 
-  delete-step : (scratch tag : List ℕ) → CallBytes (delete tag)
+  delete-step : (scratch tag : List ℕ) → CallBytes (edit (delete tag))
       → let o = delete-call.deleteOf words keys scratch tag in Stepped list (o .words) (o .keys) (deleteChange tag (o .answer))
   delete-step scratch tag bytes =
       delete-cases words keys tag (λ o. Stepped list (o .words) (o .keys) (deleteChange tag (o .answer))) (λ a r e. same (deleteChange tag a) e)
@@ -115,17 +115,10 @@ module _ {words keys : List ℕ} (s : Sound words keys) where
   step-by : (c : Call) (scratch : List ℕ) → CallBytes c → Bytes keys
       → let b : Slices = record { words = words; keys = keys; scratch = scratch } in Stepped list (run c b .slices .words) (run c b .slices .keys) (changeOf c b)
   step-by (start c) r h k = start-step c
-  step-by (search t) r h k = (s, refl)
-  step-by (prefix-search t) r h k = (s, refl)
-  step-by minimum r h k = (s, refl)
-  step-by maximum r h k = (s, refl)
-  step-by (next-leaf n) r h k = (s, refl)
-  step-by (leaf-facts n) r h k = (s, refl)
-  step-by (leaf-tag n) r h k = (s, refl)
-  step-by check r h k = (s, refl)
-  step-by (first-at-or-after t) r h k = (s, refl)
-  step-by (insert t total) r h k = insert-step r t total h k
-  step-by (delete t) r h k = delete-step r t h
+  step-by (query q) r h k = (s, refl)
+  step-by (ask a) r h k = (s, refl)
+  step-by (edit (insert t total)) r h k = insert-step r t total h k
+  step-by (edit (delete t)) r h k = delete-step r t h
 
 -- one call on a sound block: sound again, with the tags and totals that the call defines
 pub step-sound : (b : Block) (s : Sound (b .words) (b .keys)) → Bytes (b .keys) → (t : Turn) → CallBytes (t .call)
@@ -151,7 +144,7 @@ module _ {words keys : List ℕ} (s : Sound words keys) where
       insert-cases words keys tag total (λ o. Counts l (insertChange tag total (o .answer))) (λ a r e. counts-nothing l (insertChange tag total a) e)
       (λ r t short site k gap e n h. omega (arith, put-length tag total l)) (λ r t leaf e n h. omega (arith, alter-length (λ x. total) tag l)) scratch
 
-  delete-counts : (scratch tag : List ℕ) → CallBytes (delete tag) → Counts (totals (held (s .tree))) (deleteChange tag (delete-call.deleteOf words keys scratch tag .answer))
+  delete-counts : (scratch tag : List ℕ) → CallBytes (edit (delete tag)) → Counts (totals (held (s .tree))) (deleteChange tag (delete-call.deleteOf words keys scratch tag .answer))
   delete-counts scratch tag bytes =
       let l = totals (held (s .tree)) in
       delete-cases words keys tag (λ o. Counts l (deleteChange tag (o .answer))) (λ a r e. counts-nothing l (deleteChange tag a) e)
@@ -162,17 +155,10 @@ module _ {words keys : List ℕ} (s : Sound words keys) where
 
   counts-by : (c : Call) (scratch : List ℕ) → CallBytes c → Counts (totals (held (s .tree))) (changeOf c (record { words = words; keys = keys; scratch = scratch }))
   counts-by (start c) r h = start-counts (totals (held (s .tree))) (startOf words keys c .answer)
-  counts-by (search t) r h = λ n e. e
-  counts-by (prefix-search t) r h = λ n e. e
-  counts-by minimum r h = λ n e. e
-  counts-by maximum r h = λ n e. e
-  counts-by (next-leaf k) r h = λ n e. e
-  counts-by (leaf-facts k) r h = λ n e. e
-  counts-by (leaf-tag k) r h = λ n e. e
-  counts-by check r h = λ n e. e
-  counts-by (first-at-or-after t) r h = λ n e. e
-  counts-by (insert t total) r h = insert-counts r t total
-  counts-by (delete t) r h = delete-counts r t h
+  counts-by (query q) r h = λ n e. e
+  counts-by (ask a) r h = λ n e. e
+  counts-by (edit (insert t total)) r h = insert-counts r t total
+  counts-by (edit (delete t)) r h = delete-counts r t h
 
 -- an accepted new insert makes the list one longer, an accepted delete one shorter
 pub step-counts : (b : Block) (s : Sound (b .words) (b .keys)) (t : Turn) → CallBytes (t .call) → (n : Tally) → Tallied (totals (held (s .tree))) n

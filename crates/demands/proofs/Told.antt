@@ -27,7 +27,7 @@ use Rattle.range.specs.declared.After.the-variants as after
 use Rattle.insert.specs.declared.answer.Inserted.the-variants as inserted
 use Rattle.delete.specs.declared.answer.Deleted.the-variants as deleted
 use Rattle.demands.specs.Calls as calls
-use Rattle.demands.specs.Calls.{Call, leaf-facts, leaf-tag, Slices, Answer, numberOf, run, number}
+use Rattle.demands.specs.Calls.{Call, query, leaf-facts, leaf-tag, Slices, Answer, numberOf, run, number}
 use Rattle.demands.specs.Told.{Told, told, toldBy}
 
 -- ── a refusal ──
@@ -94,7 +94,7 @@ facts-len rec Broken = refl
 facts-len rec NoLeaf = refl
 
 -- the tag that the one call on a leaf number gives has the length that the other tells, 0 where it is refused, whatever the memory holds
-pub tag-facts : (n : ℕ) (s : Slices) → toldBy (run (leaf-tag n) s .answer) .length ≡ toldBy (run (leaf-facts n) s .answer) .length
+pub tag-facts : (n : ℕ) (s : Slices) → toldBy (run (query (leaf-tag n)) s .answer) .length ≡ toldBy (run (query (leaf-facts n)) s .answer) .length
 tag-facts n s = go (frameFits (s .words) (s .keys)) refl
   where
     go : (b : Bool) → frameFits (s .words) (s .keys) ≡ b → length (tagOf (s .words) (s .keys) n) ≡ factsLength (factsOf (s .words) (s .keys) n)

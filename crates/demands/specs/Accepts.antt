@@ -5,28 +5,12 @@ use mathlib.Core.List.{List}
 use mathlib.Core.Option.{Option, none, some}
 use Rattle.art.specs.Tags.{Tag, Listing}
 use Rattle.art.specs.Listings.{lookup}
-use Rattle.demands.specs.Calls as calls
-use Rattle.demands.specs.Calls.{Call, numberOf}
-use Rattle.demands.specs.Histories.{Block, Turn, answered, Change, puts, alters, leaves, amended}
-
--- the two calls that change a tag
-pub data Edit : Type 0 where
-  insert : (tag : Tag) (total : ℕ) → Edit
-  delete : (tag : Tag) → Edit
-
--- the tag that it is given
-abbrev pub tagOf : Edit → Tag
-tagOf (insert tag total) = tag
-tagOf (delete tag) = tag
-
--- it is one of the public calls
-abbrev pub callOf : Edit → Call
-callOf (insert tag total) = calls.insert tag total
-callOf (delete tag) = calls.delete tag
+use Rattle.demands.specs.Calls.{Edit, insert, delete, edit, numberOf}
+use Rattle.demands.specs.Histories.{Block, Turn, answered, tagOf, Change, puts, alters, leaves, amended}
 
 -- with the scratch that is lent
 abbrev pub turn : Edit → List ℕ → Turn
-turn e scratch = record { call = callOf e; scratch = scratch }
+turn e scratch = record { call = edit e; scratch = scratch }
 
 -- its number is 0
 abbrev pub Accepted : Block → Edit → List ℕ → Type 0

@@ -23,20 +23,32 @@ use Rattle.delete.specs.Answer as delete-answer
 use Rattle.delete.specs.Delete as delete-call
 use Rattle.delete.specs.declared.answer.Deleted.{Deleted}
 
--- a call with what it is given beside the slices
+-- a question to the words and key bytes alone: the frame is tested first
+pub data Query : Type 0 where
+  search : (tag : List ℕ) → Query
+  prefix-search : (tag : List ℕ) → Query
+  minimum : Query
+  maximum : Query
+  next-leaf : (number : ℕ) → Query
+  leaf-facts : (number : ℕ) → Query
+  leaf-tag : (number : ℕ) → Query
+
+-- a question after the whole check, which takes scratch
+pub data Asked : Type 0 where
+  check : Asked
+  first-at-or-after : (tag : List ℕ) → Asked
+
+-- a change to one tag after the whole check
+pub data Edit : Type 0 where
+  insert : (tag : List ℕ) (total : ℕ) → Edit
+  delete : (tag : List ℕ) → Edit
+
+-- a call by what it may write: a start all words and key bytes, a query nothing, a question after the check scratch, an edit all three
 pub data Call : Type 0 where
   start : (c : Caps) → Call
-  search : (tag : List ℕ) → Call
-  prefix-search : (tag : List ℕ) → Call
-  minimum : Call
-  maximum : Call
-  next-leaf : (number : ℕ) → Call
-  leaf-facts : (number : ℕ) → Call
-  leaf-tag : (number : ℕ) → Call
-  check : Call
-  first-at-or-after : (tag : List ℕ) → Call
-  insert : (tag : List ℕ) (total : ℕ) → Call
-  delete : (tag : List ℕ) → Call
+  query : Query → Call
+  ask : Asked → Call
+  edit : Edit → Call
 
 -- the slices that are lent
 pub record Slices : Type 0 where
@@ -79,44 +91,50 @@ outcome a w k s = record { answer = a; slices = record { words = w; keys = k; sc
 abbrev pub read : Answer → Slices → Outcome
 read a s = record { answer = a; slices = s }
 
+-- ── what each call answers ──
+-- a query's answer
+abbrev pub reply : Query → (words keys : List ℕ) → Answer
+reply (search t) w k = found (searchOf w k t)
+reply (prefix-search t) w k = found (prefixSearchOf w k t)
+reply minimum w k = found (minimumOf w k)
+reply maximum w k = found (maximumOf w k)
+reply (next-leaf n) w k = found (nextLeafOf w k n)
+reply (leaf-facts n) w k = facts (factsOf w k n)
+reply (leaf-tag n) w k = tag (tagOf w k n)
+
+-- the answer of a question after the check, by what the check found
+abbrev pub given : Asked → (words keys : List ℕ) → Checked → Answer
+given check w k c = checked c
+given (first-at-or-after t) w k c = after (after-call.afterCheck w k t c)
+
+-- the outcome of an edit
+abbrev pub edited : Edit → Slices → Outcome
+edited (insert t total) s =
+    let o = insert-call.insertOf (s .words) (s .keys) (s .scratch) t total in outcome (inserted (o .answer)) (o .words) (o .keys) (o .scratch)
+edited (delete t) s = let o = delete-call.deleteOf (s .words) (s .keys) (s .scratch) t in outcome (deleted (o .answer)) (o .words) (o .keys) (o .scratch)
+
+-- ── the one outcome ──
+abbrev pub run : Call → Slices → Outcome
+run (start c) s = let o = start-call.startOf (s .words) (s .keys) c in outcome (started (o .answer)) (o .words) (o .keys) (s .scratch)
+run (query q) s = read (reply q (s .words) (s .keys)) s
+run (ask a) s = let c = check-call.checkOf (s .words) (s .keys) (s .scratch) in outcome (given a (s .words) (s .keys) (c .result)) (s .words) (s .keys) (c .scratch)
+run (edit e) s = edited e s
+
+-- the number that a call gives back
+abbrev pub number : Call → Slices → Option ℕ
+number c s = numberOf (run c s .answer)
+
 -- ── what the contracts promise, each the equation of its `ensures` ──
 -- the answer and the slices that the call may change solve its equation; the other slices are as they were lent
 abbrev pub Promise : Call → Slices → Outcome → Type 0
 Promise (start c) s o = (r : Started) × (o ≡ outcome (started r) (o .slices .words) (o .slices .keys) (s .scratch))
     × (start-call.out r (o .slices .words) (o .slices .keys) ≡ start-call.startOf (s .words) (s .keys) c)
-Promise (search t) s o = (r : Found) × (o ≡ read (found r) s) × (r ≡ searchOf (s .words) (s .keys) t)
-Promise (prefix-search t) s o = (r : Found) × (o ≡ read (found r) s) × (r ≡ prefixSearchOf (s .words) (s .keys) t)
-Promise minimum s o = (r : Found) × (o ≡ read (found r) s) × (r ≡ minimumOf (s .words) (s .keys))
-Promise maximum s o = (r : Found) × (o ≡ read (found r) s) × (r ≡ maximumOf (s .words) (s .keys))
-Promise (next-leaf n) s o = (r : Found) × (o ≡ read (found r) s) × (r ≡ nextLeafOf (s .words) (s .keys) n)
-Promise (leaf-facts n) s o = (r : Facts) × (o ≡ read (facts r) s) × (r ≡ factsOf (s .words) (s .keys) n)
-Promise (leaf-tag n) s o = (r : List ℕ) × (o ≡ read (tag r) s) × (r ≡ tagOf (s .words) (s .keys) n)
-Promise check s o = (r : Checked) × (o ≡ outcome (checked r) (s .words) (s .keys) (o .slices .scratch))
+Promise (query q) s o = (a : Answer) × (o ≡ read a s) × (a ≡ reply q (s .words) (s .keys))
+Promise (ask check) s o = (r : Checked) × (o ≡ outcome (checked r) (s .words) (s .keys) (o .slices .scratch))
     × (check-call.answer r (o .slices .scratch) ≡ check-call.checkOf (s .words) (s .keys) (s .scratch))
-Promise (first-at-or-after t) s o = (r : After) × (o ≡ outcome (after r) (s .words) (s .keys) (o .slices .scratch))
+Promise (ask (first-at-or-after t)) s o = (r : After) × (o ≡ outcome (after r) (s .words) (s .keys) (o .slices .scratch))
     × (after-call.answer r (o .slices .scratch) ≡ after-call.afterOf (s .words) (s .keys) (s .scratch) t)
-Promise (insert t total) s o = (r : Inserted) × (o ≡ outcome (inserted r) (o .slices .words) (o .slices .keys) (o .slices .scratch))
+Promise (edit (insert t total)) s o = (r : Inserted) × (o ≡ outcome (inserted r) (o .slices .words) (o .slices .keys) (o .slices .scratch))
     × (insert-call.out r (o .slices .words) (o .slices .keys) (o .slices .scratch) ≡ insert-call.insertOf (s .words) (s .keys) (s .scratch) t total)
-Promise (delete t) s o = (r : Deleted) × (o ≡ outcome (deleted r) (o .slices .words) (o .slices .keys) (o .slices .scratch))
+Promise (edit (delete t)) s o = (r : Deleted) × (o ≡ outcome (deleted r) (o .slices .words) (o .slices .keys) (o .slices .scratch))
     × (delete-call.out r (o .slices .words) (o .slices .keys) (o .slices .scratch) ≡ delete-call.deleteOf (s .words) (s .keys) (s .scratch) t)
-
--- ── the one outcome ──
--- what each equation gives; slices that the call does not change stay as they were lent
-abbrev pub run : Call → Slices → Outcome
-run (start c) s = let o = start-call.startOf (s .words) (s .keys) c in outcome (started (o .answer)) (o .words) (o .keys) (s .scratch)
-run (search t) s = read (found (searchOf (s .words) (s .keys) t)) s
-run (prefix-search t) s = read (found (prefixSearchOf (s .words) (s .keys) t)) s
-run minimum s = read (found (minimumOf (s .words) (s .keys))) s
-run maximum s = read (found (maximumOf (s .words) (s .keys))) s
-run (next-leaf n) s = read (found (nextLeafOf (s .words) (s .keys) n)) s
-run (leaf-facts n) s = read (facts (factsOf (s .words) (s .keys) n)) s
-run (leaf-tag n) s = read (tag (tagOf (s .words) (s .keys) n)) s
-run check s = let o = check-call.checkOf (s .words) (s .keys) (s .scratch) in outcome (checked (o .result)) (s .words) (s .keys) (o .scratch)
-run (first-at-or-after t) s = let o = after-call.afterOf (s .words) (s .keys) (s .scratch) t in outcome (after (o .result)) (s .words) (s .keys) (o .scratch)
-run (insert t total) s =
-    let o = insert-call.insertOf (s .words) (s .keys) (s .scratch) t total in outcome (inserted (o .answer)) (o .words) (o .keys) (o .scratch)
-run (delete t) s = let o = delete-call.deleteOf (s .words) (s .keys) (s .scratch) t in outcome (deleted (o .answer)) (o .words) (o .keys) (o .scratch)
-
--- the number that a call gives back
-abbrev pub number : Call → Slices → Option ℕ
-number c s = numberOf (run c s .answer)

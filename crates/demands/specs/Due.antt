@@ -28,7 +28,7 @@ use Rattle.tree.specs.declared.minmax.Edge.the-variants.{Low, High}
 use Rattle.whole.specs.Marks.{placesIn}
 use Rattle.whole.specs.Sound.{Sound}
 use Rattle.insert.specs.Room.{LeavesFull, Lacking}
-use Rattle.demands.specs.Calls.{Call, start, search, prefix-search, minimum, maximum, next-leaf, leaf-facts, check, first-at-or-after, insert, delete, Slices}
+use Rattle.demands.specs.Calls.{Call, start, query, ask, edit, search, prefix-search, minimum, maximum, next-leaf, leaf-facts, check, first-at-or-after, insert, delete, Slices}
 use Rattle.demands.specs.Way.{Gives, Ends}
 
 -- ── frame, scratch, whole check ──
@@ -91,64 +91,64 @@ pub data Due : Call → Slices → ℕ → Type 0 where
   start-refused : {c : Caps} {s : Slices} → startFits (formOf 1) c (length (s .words)) (length (s .keys)) ≡ false → Due (start c) s 8
   start-done : {c : Caps} {s : Slices} → startFits (formOf 1) c (length (s .words)) (length (s .keys)) ≡ true → Due (start c) s 0
   -- the two searches and the two ends: 6 for the frame, then by what the walk meets; on a sound block 1 or 0 by the list
-  search-unframed : {t : Tag} {s : Slices} → Unframed s → Due (search t) s 6
-  search-walked : {t : Tag} {s : Slices} {n : ℕ} → Fitting s → Gives (frame (s .words)) (s .words) (s .keys) t Exact n → Due (search t) s n
-  search-missing : {t : Tag} {s : Slices} (z : Sound (s .words) (s .keys)) → find exact t (holds z) ≡ none → Due (search t) s 1
-  search-found : {t : Tag} {s : Slices} (z : Sound (s .words) (s .keys)) (h : Held) → find exact t (holds z) ≡ some h → Due (search t) s 0
-  prefix-unframed : {t : Tag} {s : Slices} → Unframed s → Due (prefix-search t) s 6
-  prefix-walked : {t : Tag} {s : Slices} {n : ℕ} → Fitting s → Gives (frame (s .words)) (s .words) (s .keys) t Begin n → Due (prefix-search t) s n
-  prefix-missing : {t : Tag} {s : Slices} (z : Sound (s .words) (s .keys)) → find begin t (holds z) ≡ none → Due (prefix-search t) s 1
-  prefix-found : {t : Tag} {s : Slices} (z : Sound (s .words) (s .keys)) (h : Held) → find begin t (holds z) ≡ some h → Due (prefix-search t) s 0
-  minimum-unframed : {s : Slices} → Unframed s → Due minimum s 6
-  minimum-walked : {s : Slices} {n : ℕ} → Fitting s → Ends (frame (s .words)) (s .words) (s .keys) Low n → Due minimum s n
-  minimum-missing : {s : Slices} (z : Sound (s .words) (s .keys)) → first-of (holds z) ≡ none → Due minimum s 1
-  minimum-found : {s : Slices} (z : Sound (s .words) (s .keys)) (h : Held) → first-of (holds z) ≡ some h → Due minimum s 0
-  maximum-unframed : {s : Slices} → Unframed s → Due maximum s 6
-  maximum-walked : {s : Slices} {n : ℕ} → Fitting s → Ends (frame (s .words)) (s .words) (s .keys) High n → Due maximum s n
-  maximum-missing : {s : Slices} (z : Sound (s .words) (s .keys)) → last-of (holds z) ≡ none → Due maximum s 1
-  maximum-found : {s : Slices} (z : Sound (s .words) (s .keys)) (h : Held) → last-of (holds z) ≡ some h → Due maximum s 0
+  search-unframed : {t : Tag} {s : Slices} → Unframed s → Due (query (search t)) s 6
+  search-walked : {t : Tag} {s : Slices} {n : ℕ} → Fitting s → Gives (frame (s .words)) (s .words) (s .keys) t Exact n → Due (query (search t)) s n
+  search-missing : {t : Tag} {s : Slices} (z : Sound (s .words) (s .keys)) → find exact t (holds z) ≡ none → Due (query (search t)) s 1
+  search-found : {t : Tag} {s : Slices} (z : Sound (s .words) (s .keys)) (h : Held) → find exact t (holds z) ≡ some h → Due (query (search t)) s 0
+  prefix-unframed : {t : Tag} {s : Slices} → Unframed s → Due (query (prefix-search t)) s 6
+  prefix-walked : {t : Tag} {s : Slices} {n : ℕ} → Fitting s → Gives (frame (s .words)) (s .words) (s .keys) t Begin n → Due (query (prefix-search t)) s n
+  prefix-missing : {t : Tag} {s : Slices} (z : Sound (s .words) (s .keys)) → find begin t (holds z) ≡ none → Due (query (prefix-search t)) s 1
+  prefix-found : {t : Tag} {s : Slices} (z : Sound (s .words) (s .keys)) (h : Held) → find begin t (holds z) ≡ some h → Due (query (prefix-search t)) s 0
+  minimum-unframed : {s : Slices} → Unframed s → Due (query minimum) s 6
+  minimum-walked : {s : Slices} {n : ℕ} → Fitting s → Ends (frame (s .words)) (s .words) (s .keys) Low n → Due (query minimum) s n
+  minimum-missing : {s : Slices} (z : Sound (s .words) (s .keys)) → first-of (holds z) ≡ none → Due (query minimum) s 1
+  minimum-found : {s : Slices} (z : Sound (s .words) (s .keys)) (h : Held) → first-of (holds z) ≡ some h → Due (query minimum) s 0
+  maximum-unframed : {s : Slices} → Unframed s → Due (query maximum) s 6
+  maximum-walked : {s : Slices} {n : ℕ} → Fitting s → Ends (frame (s .words)) (s .words) (s .keys) High n → Due (query maximum) s n
+  maximum-missing : {s : Slices} (z : Sound (s .words) (s .keys)) → last-of (holds z) ≡ none → Due (query maximum) s 1
+  maximum-found : {s : Slices} (z : Sound (s .words) (s .keys)) (h : Held) → last-of (holds z) ≡ some h → Due (query maximum) s 0
   -- next leaf and leaf facts: 6 for the frame, 9 for the number, 6 for the leaf
-  next-unframed : {n : ℕ} {s : Slices} → Unframed s → Due (next-leaf n) s 6
-  next-outside : {n : ℕ} {s : Slices} → Fitting s → inPool (frame (s .words)) (leaf-place n) ≡ false → Due (next-leaf n) s 9
+  next-unframed : {n : ℕ} {s : Slices} → Unframed s → Due (query (next-leaf n)) s 6
+  next-outside : {n : ℕ} {s : Slices} → Fitting s → inPool (frame (s .words)) (leaf-place n) ≡ false → Due (query (next-leaf n)) s 9
   next-free : {n : ℕ} {s : Slices} → Fitting s → inPool (frame (s .words)) (leaf-place n) ≡ true
-      → usedAs (recordAt (frame (s .words)) (s .words) (leaf-place n)) ≡ 0 → Due (next-leaf n) s 9
-  next-broken : {n : ℕ} {s : Slices} → InUse s n → obeys s n ≡ false → Due (next-leaf n) s 6
-  next-unnamed : {n : ℕ} {s : Slices} → InUse s n → obeys s n ≡ true → nextRef s n ≢ 0 → nextNamed s (nextRef s n) ≡ false → Due (next-leaf n) s 6
-  next-end : {n : ℕ} {s : Slices} → InUse s n → obeys s n ≡ true → nextRef s n ≡ 0 → Due (next-leaf n) s 1
-  next-done : {n : ℕ} {s : Slices} → InUse s n → obeys s n ≡ true → nextRef s n ≢ 0 → nextNamed s (nextRef s n) ≡ true → Due (next-leaf n) s 0
-  facts-unframed : {n : ℕ} {s : Slices} → Unframed s → Due (leaf-facts n) s 6
-  facts-outside : {n : ℕ} {s : Slices} → Fitting s → inPool (frame (s .words)) (leaf-place n) ≡ false → Due (leaf-facts n) s 9
+      → usedAs (recordAt (frame (s .words)) (s .words) (leaf-place n)) ≡ 0 → Due (query (next-leaf n)) s 9
+  next-broken : {n : ℕ} {s : Slices} → InUse s n → obeys s n ≡ false → Due (query (next-leaf n)) s 6
+  next-unnamed : {n : ℕ} {s : Slices} → InUse s n → obeys s n ≡ true → nextRef s n ≢ 0 → nextNamed s (nextRef s n) ≡ false → Due (query (next-leaf n)) s 6
+  next-end : {n : ℕ} {s : Slices} → InUse s n → obeys s n ≡ true → nextRef s n ≡ 0 → Due (query (next-leaf n)) s 1
+  next-done : {n : ℕ} {s : Slices} → InUse s n → obeys s n ≡ true → nextRef s n ≢ 0 → nextNamed s (nextRef s n) ≡ true → Due (query (next-leaf n)) s 0
+  facts-unframed : {n : ℕ} {s : Slices} → Unframed s → Due (query (leaf-facts n)) s 6
+  facts-outside : {n : ℕ} {s : Slices} → Fitting s → inPool (frame (s .words)) (leaf-place n) ≡ false → Due (query (leaf-facts n)) s 9
   facts-free : {n : ℕ} {s : Slices} → Fitting s → inPool (frame (s .words)) (leaf-place n) ≡ true
-      → usedAs (recordAt (frame (s .words)) (s .words) (leaf-place n)) ≡ 0 → Due (leaf-facts n) s 9
-  facts-broken : {n : ℕ} {s : Slices} → InUse s n → obeys s n ≡ false → Due (leaf-facts n) s 6
-  facts-done : {n : ℕ} {s : Slices} → InUse s n → obeys s n ≡ true → Due (leaf-facts n) s 0
+      → usedAs (recordAt (frame (s .words)) (s .words) (leaf-place n)) ≡ 0 → Due (query (leaf-facts n)) s 9
+  facts-broken : {n : ℕ} {s : Slices} → InUse s n → obeys s n ≡ false → Due (query (leaf-facts n)) s 6
+  facts-done : {n : ℕ} {s : Slices} → InUse s n → obeys s n ≡ true → Due (query (leaf-facts n)) s 0
   -- the check: frame 6, 7, 6
-  check-unframed : {s : Slices} → Unframed s → Due check s 6
-  check-short : {s : Slices} → Short s → Due check s 7
-  check-unsound : {s : Slices} → Unsound s → Due check s 6
-  check-sound : {s : Slices} → Passed s → Due check s 0
+  check-unframed : {s : Slices} → Unframed s → Due (ask check) s 6
+  check-short : {s : Slices} → Short s → Due (ask check) s 7
+  check-unsound : {s : Slices} → Unsound s → Due (ask check) s 6
+  check-sound : {s : Slices} → Passed s → Due (ask check) s 0
   -- first-at-or-after: the same, then 1
-  after-unframed : {t : Tag} {s : Slices} → Unframed s → Due (first-at-or-after t) s 6
-  after-short : {t : Tag} {s : Slices} → Short s → Due (first-at-or-after t) s 7
-  after-unsound : {t : Tag} {s : Slices} → Unsound s → Due (first-at-or-after t) s 6
-  after-missing : {t : Tag} {s : Slices} (p : Passed s) → after t (holds (p .sound)) ≡ none → Due (first-at-or-after t) s 1
-  after-found : {t : Tag} {s : Slices} (p : Passed s) (h : Held) → after t (holds (p .sound)) ≡ some h → Due (first-at-or-after t) s 0
+  after-unframed : {t : Tag} {s : Slices} → Unframed s → Due (ask (first-at-or-after t)) s 6
+  after-short : {t : Tag} {s : Slices} → Short s → Due (ask (first-at-or-after t)) s 7
+  after-unsound : {t : Tag} {s : Slices} → Unsound s → Due (ask (first-at-or-after t)) s 6
+  after-missing : {t : Tag} {s : Slices} (p : Passed s) → after t (holds (p .sound)) ≡ none → Due (ask (first-at-or-after t)) s 1
+  after-found : {t : Tag} {s : Slices} (p : Passed s) (h : Held) → after t (holds (p .sound)) ≡ some h → Due (ask (first-at-or-after t)) s 0
   -- insert: 2, the same, then over if held, else 3, 4, 5
-  insert-long : {t : Tag} {total : ℕ} {s : Slices} → formOf 1 .limit < length t → Due (insert t total) s 2
-  insert-unframed : {t : Tag} {total : ℕ} {s : Slices} → length t ≤ formOf 1 .limit → Unframed s → Due (insert t total) s 6
-  insert-short : {t : Tag} {total : ℕ} {s : Slices} → length t ≤ formOf 1 .limit → Short s → Due (insert t total) s 7
-  insert-unsound : {t : Tag} {total : ℕ} {s : Slices} → length t ≤ formOf 1 .limit → Unsound s → Due (insert t total) s 6
-  insert-over : {t : Tag} {total : ℕ} {s : Slices} → length t ≤ formOf 1 .limit → (p : Passed s) → judge t (holds (p .sound)) ≡ known → Due (insert t total) s 0
-  insert-clash : {t : Tag} {total : ℕ} {s : Slices} → length t ≤ formOf 1 .limit → (p : Passed s) → judge t (holds (p .sound)) ≡ clash → Due (insert t total) s 3
+  insert-long : {t : Tag} {total : ℕ} {s : Slices} → formOf 1 .limit < length t → Due (edit (insert t total)) s 2
+  insert-unframed : {t : Tag} {total : ℕ} {s : Slices} → length t ≤ formOf 1 .limit → Unframed s → Due (edit (insert t total)) s 6
+  insert-short : {t : Tag} {total : ℕ} {s : Slices} → length t ≤ formOf 1 .limit → Short s → Due (edit (insert t total)) s 7
+  insert-unsound : {t : Tag} {total : ℕ} {s : Slices} → length t ≤ formOf 1 .limit → Unsound s → Due (edit (insert t total)) s 6
+  insert-over : {t : Tag} {total : ℕ} {s : Slices} → length t ≤ formOf 1 .limit → (p : Passed s) → judge t (holds (p .sound)) ≡ known → Due (edit (insert t total)) s 0
+  insert-clash : {t : Tag} {total : ℕ} {s : Slices} → length t ≤ formOf 1 .limit → (p : Passed s) → judge t (holds (p .sound)) ≡ clash → Due (edit (insert t total)) s 3
   insert-full : {t : Tag} {total : ℕ} {s : Slices} → length t ≤ formOf 1 .limit → (p : Passed s) → judge t (holds (p .sound)) ≡ free
-      → LeavesFull (frame (s .words)) (store-of (p .sound .tree)) → Due (insert t total) s 4
+      → LeavesFull (frame (s .words)) (store-of (p .sound .tree)) → Due (edit (insert t total)) s 4
   insert-lacking : {t : Tag} {total : ℕ} {s : Slices} → length t ≤ formOf 1 .limit → (p : Passed s) → judge t (holds (p .sound)) ≡ free
-      → ¬ LeavesFull (frame (s .words)) (store-of (p .sound .tree)) → Lacking (frame (s .words)) (p .sound .tree) t → Due (insert t total) s 5
+      → ¬ LeavesFull (frame (s .words)) (store-of (p .sound .tree)) → Lacking (frame (s .words)) (p .sound .tree) t → Due (edit (insert t total)) s 5
   insert-new : {t : Tag} {total : ℕ} {s : Slices} → length t ≤ formOf 1 .limit → (p : Passed s) → judge t (holds (p .sound)) ≡ free
-      → ¬ LeavesFull (frame (s .words)) (store-of (p .sound .tree)) → ¬ Lacking (frame (s .words)) (p .sound .tree) t → Due (insert t total) s 0
+      → ¬ LeavesFull (frame (s .words)) (store-of (p .sound .tree)) → ¬ Lacking (frame (s .words)) (p .sound .tree) t → Due (edit (insert t total)) s 0
   -- delete: as the check, then 1
-  delete-unframed : {t : Tag} {s : Slices} → Unframed s → Due (delete t) s 6
-  delete-short : {t : Tag} {s : Slices} → Short s → Due (delete t) s 7
-  delete-unsound : {t : Tag} {s : Slices} → Unsound s → Due (delete t) s 6
-  delete-missing : {t : Tag} {s : Slices} (p : Passed s) → lookup t (holds (p .sound)) ≡ none → Due (delete t) s 1
-  delete-held : {t : Tag} {s : Slices} (p : Passed s) (h : Held) → lookup t (holds (p .sound)) ≡ some h → Due (delete t) s 0
+  delete-unframed : {t : Tag} {s : Slices} → Unframed s → Due (edit (delete t)) s 6
+  delete-short : {t : Tag} {s : Slices} → Short s → Due (edit (delete t)) s 7
+  delete-unsound : {t : Tag} {s : Slices} → Unsound s → Due (edit (delete t)) s 6
+  delete-missing : {t : Tag} {s : Slices} (p : Passed s) → lookup t (holds (p .sound)) ≡ none → Due (edit (delete t)) s 1
+  delete-held : {t : Tag} {s : Slices} (p : Passed s) (h : Held) → lookup t (holds (p .sound)) ≡ some h → Due (edit (delete t)) s 0

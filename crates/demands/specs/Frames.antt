@@ -4,7 +4,7 @@ use mathlib.Core.Path.{_≡_}
 use mathlib.Core.List.{List, [], _∷_}
 use lib.ListN.{length, getD}
 use Rattle.frames.specs.Frame.{trailerOf}
-use Rattle.demands.specs.Calls.{Call, start, search, prefix-search, minimum, maximum, next-leaf, leaf-facts, leaf-tag, check, first-at-or-after, insert, delete}
+use Rattle.demands.specs.Calls.{Call, start, query, ask, edit}
 use Rattle.demands.specs.Histories.{Turn}
 
 -- the trailer's words that make the frame: form, five distances, five capacities, and the words in the block
@@ -22,17 +22,9 @@ pub record FrameKept (words keys words′ keys′ : List ℕ) : Type 0 where
 -- any call but start
 abbrev pub NoStart : Call → Type 0
 NoStart (start c) = ⊥
-NoStart (search t) = Unit {0}
-NoStart (prefix-search t) = Unit {0}
-NoStart minimum = Unit {0}
-NoStart maximum = Unit {0}
-NoStart (next-leaf n) = Unit {0}
-NoStart (leaf-facts n) = Unit {0}
-NoStart (leaf-tag n) = Unit {0}
-NoStart check = Unit {0}
-NoStart (first-at-or-after t) = Unit {0}
-NoStart (insert t total) = Unit {0}
-NoStart (delete t) = Unit {0}
+NoStart (query q) = Unit {0}
+NoStart (ask a) = Unit {0}
+NoStart (edit e) = Unit {0}
 
 -- no start among them
 abbrev pub NoStarts : List Turn → Type 0

@@ -18,7 +18,7 @@ use Rattle.delete.specs.Delete.{deleteOf}
 use Rattle.delete.specs.declared.answer.Deleted.{Deleted}
 use Rattle.delete.specs.declared.answer.Deleted.the-variants as deleted
 use Rattle.demands.specs.Calls as calls
-use Rattle.demands.specs.Calls.{Call, Slices, Answer, run}
+use Rattle.demands.specs.Calls.{Call, Query, Asked, Edit, Slices, Answer, run}
 
 -- the words and key bytes of a directory
 pub record Block : Type 0 where
@@ -79,20 +79,17 @@ deleteChange tag deleted.Missing = nothing
 deleteChange tag deleted.Damaged = nothing
 deleteChange tag deleted.ShortScratch = nothing
 
--- by the call and its answer: reading changes nothing
+-- of an edit
+abbrev pub editChange : Edit → Slices → Change
+editChange (calls.insert t total) s = insertChange t total (insertOf (s .words) (s .keys) (s .scratch) t total .answer)
+editChange (calls.delete t) s = deleteChange t (deleteOf (s .words) (s .keys) (s .scratch) t .answer)
+
+-- by the call and its answer: a question changes nothing
 abbrev pub changeOf : Call → Slices → Change
 changeOf (calls.start c) s = startChange (startOf (s .words) (s .keys) c .answer)
-changeOf (calls.search t) s = nothing
-changeOf (calls.prefix-search t) s = nothing
-changeOf calls.minimum s = nothing
-changeOf calls.maximum s = nothing
-changeOf (calls.next-leaf n) s = nothing
-changeOf (calls.leaf-facts n) s = nothing
-changeOf (calls.leaf-tag n) s = nothing
-changeOf calls.check s = nothing
-changeOf (calls.first-at-or-after t) s = nothing
-changeOf (calls.insert t total) s = insertChange t total (insertOf (s .words) (s .keys) (s .scratch) t total .answer)
-changeOf (calls.delete t) s = deleteChange t (deleteOf (s .words) (s .keys) (s .scratch) t .answer)
+changeOf (calls.query q) s = nothing
+changeOf (calls.ask a) s = nothing
+changeOf (calls.edit e) s = editChange e s
 
 -- tags with their totals
 abbrev pub totals : Listing Held → Listing ℕ
@@ -138,20 +135,28 @@ abbrev pub counted-all : Block → Tally → List Turn → Tally
 counted-all b n [] = n
 counted-all b n (t ∷ ts) = counted-all (next b t) (counted n (changeOf (t .call) (lent b t))) ts
 
+-- the tag that an edit is given
+abbrev pub tagOf : Edit → List ℕ
+tagOf (calls.insert t total) = t
+tagOf (calls.delete t) = t
+
+-- the tag that a query is given is bytes
+abbrev pub QueryBytes : Query → Type 0
+QueryBytes (calls.search t) = Bytes t
+QueryBytes (calls.prefix-search t) = Bytes t
+QueryBytes calls.minimum = Unit {0}
+QueryBytes calls.maximum = Unit {0}
+QueryBytes (calls.next-leaf n) = Unit {0}
+QueryBytes (calls.leaf-facts n) = Unit {0}
+QueryBytes (calls.leaf-tag n) = Unit {0}
+
 -- the tags that are given are bytes
 abbrev pub CallBytes : Call → Type 0
 CallBytes (calls.start c) = Unit {0}
-CallBytes (calls.search t) = Bytes t
-CallBytes (calls.prefix-search t) = Bytes t
-CallBytes calls.minimum = Unit {0}
-CallBytes calls.maximum = Unit {0}
-CallBytes (calls.next-leaf n) = Unit {0}
-CallBytes (calls.leaf-facts n) = Unit {0}
-CallBytes (calls.leaf-tag n) = Unit {0}
-CallBytes calls.check = Unit {0}
-CallBytes (calls.first-at-or-after t) = Bytes t
-CallBytes (calls.insert t total) = Bytes t
-CallBytes (calls.delete t) = Bytes t
+CallBytes (calls.query q) = QueryBytes q
+CallBytes (calls.ask calls.check) = Unit {0}
+CallBytes (calls.ask (calls.first-at-or-after t)) = Bytes t
+CallBytes (calls.edit e) = Bytes (tagOf e)
 
 -- and so in every call of a history
 abbrev pub AllBytes : List Turn → Type 0

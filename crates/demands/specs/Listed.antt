@@ -32,17 +32,9 @@ use Rattle.demands.specs.Due.{holds}
 -- where a call takes scratch, there is a byte for each record
 abbrev pub Suffices : Call → Slices → Type 0
 Suffices (calls.start c) s = Unit {0}
-Suffices (calls.search t) s = Unit {0}
-Suffices (calls.prefix-search t) s = Unit {0}
-Suffices calls.minimum s = Unit {0}
-Suffices calls.maximum s = Unit {0}
-Suffices (calls.next-leaf n) s = Unit {0}
-Suffices (calls.leaf-facts n) s = Unit {0}
-Suffices (calls.leaf-tag n) s = Unit {0}
-Suffices calls.check s = placesIn (frame (s .words)) ≤ length (s .scratch)
-Suffices (calls.first-at-or-after t) s = placesIn (frame (s .words)) ≤ length (s .scratch)
-Suffices (calls.insert t total) s = placesIn (frame (s .words)) ≤ length (s .scratch)
-Suffices (calls.delete t) s = placesIn (frame (s .words)) ≤ length (s .scratch)
+Suffices (calls.query q) s = Unit {0}
+Suffices (calls.ask a) s = placesIn (frame (s .words)) ≤ length (s .scratch)
+Suffices (calls.edit e) s = placesIn (frame (s .words)) ≤ length (s .scratch)
 
 -- insert of a tag of 64 bytes or fewer: a held tag's old total; 3 for one that begins a held tag or is begun by one; any other goes in, but for 4 where no leaf is free, and 5 where no record is
 pub record InsertsListed {words keys : List ℕ} (s : Sound words keys) (t : Tag) (a : Inserted) : Type 0 where
@@ -56,19 +48,19 @@ pub record InsertsListed {words keys : List ℕ} (s : Sound words keys) (t : Tag
 -- the first entry that is not below; insert and delete by what is held for the tag. Start does not ask the list
 abbrev pub Listed : {words keys : List ℕ} → Sound words keys → Call → Answer → Type 0
 Listed s (calls.start c) a = Unit {0}
-Listed s (calls.search t) a = a ≡ calls.found (answerOf (find exact t (holds s)))
-Listed s (calls.prefix-search t) a = a ≡ calls.found (answerOf (find begin t (holds s)))
-Listed s calls.minimum a = a ≡ calls.found (answerOf (first-of (holds s)))
-Listed s calls.maximum a = a ≡ calls.found (answerOf (last-of (holds s)))
-Listed s (calls.next-leaf n) a =
+Listed s (calls.query (calls.search t)) a = a ≡ calls.found (answerOf (find exact t (holds s)))
+Listed s (calls.query (calls.prefix-search t)) a = a ≡ calls.found (answerOf (find begin t (holds s)))
+Listed s (calls.query calls.minimum) a = a ≡ calls.found (answerOf (first-of (holds s)))
+Listed s (calls.query calls.maximum) a = a ≡ calls.found (answerOf (last-of (holds s)))
+Listed s (calls.query (calls.next-leaf n)) a =
     ((front : Listing Held) (e : Tag × Held) (rest : Listing Held) → holds s ≡ front ++ e ∷ rest → e .1 .number ≡ n → a ≡ calls.found (answerOf (first-of rest)))
     × (Free n (holds s) → a ≡ calls.found found.NoLeaf)
-Listed s (calls.leaf-facts n) a =
+Listed s (calls.query (calls.leaf-facts n)) a =
     ((e : Tag × Held) → In e (holds s) → e .1 .number ≡ n → a ≡ calls.facts (facts.Leaf (length (e .0)) (e .1 .total))) × (Free n (holds s) → a ≡ calls.facts facts.NoLeaf)
-Listed s (calls.leaf-tag n) a = ((e : Tag × Held) → In e (holds s) → e .1 .number ≡ n → a ≡ calls.tag (e .0)) × (Free n (holds s) → a ≡ calls.tag [])
-Listed s calls.check a = a ≡ calls.checked checked.Sound
-Listed s (calls.first-at-or-after t) a = a ≡ calls.after (afterIs (after t (holds s)))
-Listed s (calls.insert t total) a =
+Listed s (calls.query (calls.leaf-tag n)) a = ((e : Tag × Held) → In e (holds s) → e .1 .number ≡ n → a ≡ calls.tag (e .0)) × (Free n (holds s) → a ≡ calls.tag [])
+Listed s (calls.ask calls.check) a = a ≡ calls.checked checked.Sound
+Listed s (calls.ask (calls.first-at-or-after t)) a = a ≡ calls.after (afterIs (after t (holds s)))
+Listed s (calls.edit (calls.insert t total)) a =
     (formOf 1 .limit < length t → a ≡ calls.inserted inserted.TooLong)
     × (length t ≤ formOf 1 .limit → (r : Inserted) × (a ≡ calls.inserted r) × InsertsListed s t r)
-Listed s (calls.delete t) a = a ≡ calls.deleted (delete-meets.answerOf (lookup t (holds s)))
+Listed s (calls.edit (calls.delete t)) a = a ≡ calls.deleted (delete-meets.answerOf (lookup t (holds s)))

@@ -9,7 +9,7 @@ use Rattle.frames.specs.Form.{formOf}
 use Rattle.frames.specs.Frame.{frameFits, frame}
 use Rattle.whole.specs.Marks.{placesIn}
 use Rattle.whole.specs.Check.{cleared}
-use Rattle.demands.specs.Calls.{Call, start, search, prefix-search, minimum, maximum, next-leaf, leaf-facts, leaf-tag, check, first-at-or-after, insert, delete, Slices}
+use Rattle.demands.specs.Calls.{Call, start, query, ask, edit, insert, delete, Slices}
 
 -- the frame fits, and there is a byte for each record
 abbrev pub enough : Slices → Bool
@@ -18,17 +18,10 @@ enough s = frameFits (s .words) (s .keys) && leb (placesIn (frame (s .words))) (
 -- the call takes scratch, and gets past its test for 7; insert tests its tag's length before
 abbrev pub past : Call → Slices → Bool
 past (start c) s = false
-past (search t) s = false
-past (prefix-search t) s = false
-past minimum s = false
-past maximum s = false
-past (next-leaf n) s = false
-past (leaf-facts n) s = false
-past (leaf-tag n) s = false
-past check s = enough s
-past (first-at-or-after t) s = enough s
-past (insert t total) s = leb (length t) (formOf 1 .limit) && enough s
-past (delete t) s = enough s
+past (query q) s = false
+past (ask a) s = enough s
+past (edit (insert t total)) s = leb (length t) (formOf 1 .limit) && enough s
+past (edit (delete t)) s = enough s
 
 -- as many zeros in front as there are records, the rest untouched; before the test all untouched
 abbrev pub leftIn : Call → Slices → List ℕ

@@ -16,7 +16,7 @@ use Rattle.tree.proofs.Arrivals.{frame-out}
 use Rattle.leaves.specs.Leaf.{tagLen, tagOf}
 use Rattle.leaves.proofs.Leaves.{tag-short, tag-part, tag-by}
 use Rattle.directory_c.specs.declared.DirectoryPart.{DirectoryPart}
-use Rattle.demands.specs.Calls.{leaf-facts, run}
+use Rattle.demands.specs.Calls.{query, leaf-facts, run}
 use Rattle.demands.proofs.Told.{tag-long, tag-facts}
 use Rattle.directory_c.specs.Numbers.{lentTwo, leafIn, tagStart, partOf}
 
@@ -65,6 +65,6 @@ module _ (words keys : List ℕ) (n : ℕ) where
   part-by false e = refl
 
   -- and it is as long as the other call on the leaf number says
-  pub part-facts : partOf words keys n (tagOf words keys n) .length ≡ leafIn (run (leaf-facts n) (lentTwo words keys) .answer) .length
+  pub part-facts : partOf words keys n (tagOf words keys n) .length ≡ leafIn (run (query (leaf-facts n)) (lentTwo words keys) .answer) .length
   unfolding partOf
   part-facts = part-by (eqb (length tag) 0) refl ∙ tag-facts n (lentTwo words keys)

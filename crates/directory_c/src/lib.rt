@@ -127,42 +127,42 @@ pub extern "C" fn directory_start(
 
 #[no_mangle]
 pub extern "C" fn directory_search(words: &[u32], keys: &[u8], tag: &[u8]) -> DirectoryFound
-    ensures { λ r. ⌜ r ≡ foundIn (run (calls.search (now (tag .entry))) (lentTwo (now (words .entry)) (now (keys .entry))) .answer) ⌝ }
+    ensures { λ r. ⌜ r ≡ foundIn (run (calls.query (calls.search (now (tag .entry)))) (lentTwo (now (words .entry)) (now (keys .entry))) .answer) ⌝ }
 {
     found(tree::lookup::search(words, keys, tag))
 }
 
 #[no_mangle]
 pub extern "C" fn directory_prefix_search(words: &[u32], keys: &[u8], tag: &[u8]) -> DirectoryFound
-    ensures { λ r. ⌜ r ≡ foundIn (run (calls.prefix-search (now (tag .entry))) (lentTwo (now (words .entry)) (now (keys .entry))) .answer) ⌝ }
+    ensures { λ r. ⌜ r ≡ foundIn (run (calls.query (calls.prefix-search (now (tag .entry)))) (lentTwo (now (words .entry)) (now (keys .entry))) .answer) ⌝ }
 {
     found(tree::lookup::prefix_search(words, keys, tag))
 }
 
 #[no_mangle]
 pub extern "C" fn directory_minimum(words: &[u32], keys: &[u8]) -> DirectoryFound
-    ensures { λ r. ⌜ r ≡ foundIn (run calls.minimum (lentTwo (now (words .entry)) (now (keys .entry))) .answer) ⌝ }
+    ensures { λ r. ⌜ r ≡ foundIn (run (calls.query calls.minimum) (lentTwo (now (words .entry)) (now (keys .entry))) .answer) ⌝ }
 {
     found(tree::minmax::minimum(words, keys))
 }
 
 #[no_mangle]
 pub extern "C" fn directory_maximum(words: &[u32], keys: &[u8]) -> DirectoryFound
-    ensures { λ r. ⌜ r ≡ foundIn (run calls.maximum (lentTwo (now (words .entry)) (now (keys .entry))) .answer) ⌝ }
+    ensures { λ r. ⌜ r ≡ foundIn (run (calls.query calls.maximum) (lentTwo (now (words .entry)) (now (keys .entry))) .answer) ⌝ }
 {
     found(tree::minmax::maximum(words, keys))
 }
 
 #[no_mangle]
 pub extern "C" fn directory_next_leaf(words: &[u32], keys: &[u8], leaf: u32) -> DirectoryFound
-    ensures { λ r. ⌜ r ≡ foundIn (run (calls.next-leaf leaf) (lentTwo (now (words .entry)) (now (keys .entry))) .answer) ⌝ }
+    ensures { λ r. ⌜ r ≡ foundIn (run (calls.query (calls.next-leaf leaf)) (lentTwo (now (words .entry)) (now (keys .entry))) .answer) ⌝ }
 {
     found(leaves::next_leaf(words, keys, leaf))
 }
 
 #[no_mangle]
 pub extern "C" fn directory_leaf_facts(words: &[u32], keys: &[u8], leaf: u32) -> DirectoryLeaf
-    ensures { λ r. ⌜ r ≡ leafIn (run (calls.leaf-facts leaf) (lentTwo (now (words .entry)) (now (keys .entry))) .answer) ⌝ }
+    ensures { λ r. ⌜ r ≡ leafIn (run (calls.query (calls.leaf-facts leaf)) (lentTwo (now (words .entry)) (now (keys .entry))) .answer) ⌝ }
 {
     facts(leaves::leaf_facts(words, keys, leaf))
 }
@@ -180,7 +180,7 @@ fn tag_start(words: &[u32], keys: &[u8], leaf: u32) -> u64
 
 #[no_mangle]
 pub extern "C" fn directory_leaf_tag(words: &[u32], keys: &[u8], leaf: u32) -> DirectoryPart
-    ensures { λ r. ⌜ r ≡ partOf (now (words .entry)) (now (keys .entry)) leaf (toldBy (run (calls.leaf-tag leaf) (lentTwo (now (words .entry)) (now (keys .entry))) .answer) .tag) ⌝ }
+    ensures { λ r. ⌜ r ≡ partOf (now (words .entry)) (now (keys .entry)) leaf (toldBy (run (calls.query (calls.leaf-tag leaf)) (lentTwo (now (words .entry)) (now (keys .entry))) .answer) .tag) ⌝ }
 {
     let tag = leaves::leaf_tag(words, keys, leaf);
     let n = tag.len();
@@ -208,7 +208,7 @@ fn check_number(c: Checked) -> u32
 
 #[no_mangle]
 pub extern "C" fn directory_check(words: &[u32], keys: &[u8], scratch: &mut [u8]) -> u32
-    ensures { λ r. ⌜ seen r (now (words .entry)) (now (keys .entry)) (now (scratch .exit)) ≡ seenIn numberIn (run calls.check (lent (now (words .entry)) (now (keys .entry)) (now (scratch .entry)))) ⌝ }
+    ensures { λ r. ⌜ seen r (now (words .entry)) (now (keys .entry)) (now (scratch .exit)) ≡ seenIn numberIn (run (calls.ask calls.check) (lent (now (words .entry)) (now (keys .entry)) (now (scratch .entry)))) ⌝ }
 {
     check_number(whole::check::check(words, keys, scratch))
 }
@@ -247,7 +247,7 @@ pub extern "C" fn directory_first_at_or_after(
     scratch: &mut [u8],
     tag: &[u8],
 ) -> DirectoryFound
-    ensures { λ r. ⌜ seen r (now (words .entry)) (now (keys .entry)) (now (scratch .exit)) ≡ seenIn foundIn (run (calls.first-at-or-after (now (tag .entry))) (lent (now (words .entry)) (now (keys .entry)) (now (scratch .entry)))) ⌝ }
+    ensures { λ r. ⌜ seen r (now (words .entry)) (now (keys .entry)) (now (scratch .exit)) ≡ seenIn foundIn (run (calls.ask (calls.first-at-or-after (now (tag .entry)))) (lent (now (words .entry)) (now (keys .entry)) (now (scratch .entry)))) ⌝ }
 {
     after_found(range::first_at_or_after(words, keys, scratch, tag))
 }
@@ -284,7 +284,7 @@ pub extern "C" fn directory_insert(
     tag: &[u8],
     total: u64,
 ) -> DirectoryChanged
-    ensures { λ r. ⌜ seen r (now (words .exit)) (now (keys .exit)) (now (scratch .exit)) ≡ seenIn changedIn (run (calls.insert (now (tag .entry)) total) (lent (now (words .entry)) (now (keys .entry)) (now (scratch .entry)))) ⌝ }
+    ensures { λ r. ⌜ seen r (now (words .exit)) (now (keys .exit)) (now (scratch .exit)) ≡ seenIn changedIn (run (calls.edit (calls.insert (now (tag .entry)) total)) (lent (now (words .entry)) (now (keys .entry)) (now (scratch .entry)))) ⌝ }
 {
     insert_change(insert::insert::insert(words, keys, scratch, tag, total))
 }
@@ -307,7 +307,7 @@ pub extern "C" fn directory_delete(
     scratch: &mut [u8],
     tag: &[u8],
 ) -> DirectoryChanged
-    ensures { λ r. ⌜ seen r (now (words .exit)) (now (keys .exit)) (now (scratch .exit)) ≡ seenIn changedIn (run (calls.delete (now (tag .entry))) (lent (now (words .entry)) (now (keys .entry)) (now (scratch .entry)))) ⌝ }
+    ensures { λ r. ⌜ seen r (now (words .exit)) (now (keys .exit)) (now (scratch .exit)) ≡ seenIn changedIn (run (calls.edit (calls.delete (now (tag .entry)))) (lent (now (words .entry)) (now (keys .entry)) (now (scratch .entry)))) ⌝ }
 {
     delete_change(delete::delete::delete(words, keys, scratch, tag))
 }

@@ -15,7 +15,7 @@ use Rattle.whole.specs.Sound.{Sound}
 use Rattle.whole.proofs.Sounds.{whole-sound}
 use Rattle.pointed.proofs.Points.{tag-bytes}
 use Rattle.insert.specs.Room.{LeavesFull, Lacking}
-use Rattle.demands.specs.Calls.{Call, start, insert, delete, numberOf, number}
+use Rattle.demands.specs.Calls.{query, ask, edit, Call, start, insert, delete, numberOf, number}
 use Rattle.demands.specs.Histories.{Block, Turn, answered, next, after-all, AllBytes}
 use Rattle.demands.proofs.Histories.{history}
 use Rattle.capacity.specs.Capacity.{Large, AmpleCaps, AmpleFrame, AmpleStarts, Tight}
@@ -41,7 +41,7 @@ four-large = omega arith
 has-room : ¬ LeavesFull (frame (four .words)) (store-of (four-sound .tree)) → ¬ Lacking (frame (four .words)) (four-sound .tree) B
 has-room = never-lacks four-sound B (tag-bytes B refl) four-large
 
-not-five : number (insert B 8) (lend four 3) ≢ some 5
+not-five : number (edit (insert B 8)) (lend four 3) ≢ some 5
 not-five = large-never-five (lend four 3) B 8 (tag-bytes B refl) four-large
 
 -- ── capacities for five tags ──
@@ -64,7 +64,7 @@ call c = record { call = c; scratch = replicate 11 1 }
 
 -- started anew after a first tag; then the record of kind 1 grows with E, and shrinks when A is gone
 abbrev calls : List Turn
-calls = call (insert E 9) ∷ call (start five) ∷ call (insert A 1) ∷ call (insert B 2) ∷ call (insert C 3) ∷ call (insert D 4) ∷ call (insert E 5) ∷ call (delete A) ∷ []
+calls = call (edit (insert E 9)) ∷ call (start five) ∷ call (edit (insert A 1)) ∷ call (edit (insert B 2)) ∷ call (edit (insert C 3)) ∷ call (edit (insert D 4)) ∷ call (edit (insert E 5)) ∷ call (edit (delete A)) ∷ []
 
 bytes : AllBytes calls
 bytes =
@@ -79,7 +79,7 @@ starts = (tt, ((λ done. enough), (tt, (tt, (tt, (tt, (tt, (tt, tt))))))))
 abbrev last : Block
 last = after-all (next before (call (start five))) calls
 
-A-again : numberOf (answered last (call (insert A 6))) ≢ some 5
+A-again : numberOf (answered last (call (edit (insert A 6)))) ≢ some 5
 A-again = ample-never-five before five (replicate 11 1) accepted enough calls bytes starts A 6 (replicate 11 1) (tag-bytes A refl)
 
 smallest-kinds : Tight (frame (last .words)) (last .words) (last .keys)

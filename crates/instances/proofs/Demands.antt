@@ -28,10 +28,10 @@ use Rattle.insert.specs.declared.answer.Inserted.the-variants as inserted
 use Rattle.delete.specs.Meets as delete-meets
 use Rattle.delete.specs.declared.answer.Deleted.the-variants as deleted
 use Rattle.demands.specs.Calls as calls
-use Rattle.demands.specs.Calls.{Outcome, outcome, Promise, run}
+use Rattle.demands.specs.Calls.{insert, delete, Outcome, outcome, Promise, run}
 use Rattle.demands.specs.Histories.{Block, Turn, answered, next, after-all, puts, totals, amended}
 use Rattle.demands.specs.Drawn.{drawing}
-use Rattle.demands.specs.Accepts.{insert, delete, turn}
+use Rattle.demands.specs.Accepts.{turn}
 use Rattle.demands.specs.Listed.{InsertsListed}
 use Rattle.demands.proofs.Reading.{sound-reads}
 use Rattle.demands.proofs.Listed.{sound-listed}
@@ -55,33 +55,33 @@ abbrev put : Outcome
 put = outcome (calls.inserted inserted.New) (three .words) (three .keys) (replicate 5 0)
 
 -- putting C in leaves these words, key bytes and scratch bytes
-put-promised : Promise (calls.insert C 9) (lend room 5) put
+put-promised : Promise (calls.edit (calls.insert C 9)) (lend room 5) put
 unfolding opened
-put-promised = promised (calls.insert C 9) (lend room 5)
+put-promised = promised (calls.edit (calls.insert C 9)) (lend room 5)
 
 -- and whatever else the promise allows is the same
-put-only : (o : Outcome) → Promise (calls.insert C 9) (lend room 5) o → o ≡ put
-put-only o p = one-outcome (calls.insert C 9) (lend room 5) o put p put-promised
+put-only : (o : Outcome) → Promise (calls.edit (calls.insert C 9)) (lend room 5) o → o ≡ put
+put-only o p = one-outcome (calls.edit (calls.insert C 9)) (lend room 5) o put p put-promised
 
 -- ── a refused call changes no byte ──
 -- both leaves are used: 4
-refused : (run (calls.insert C 9) (lend two 3) .slices .words ≡ two-words) × (run (calls.insert C 9) (lend two 3) .slices .keys ≡ two-keys)
+refused : (run (calls.edit (calls.insert C 9)) (lend two 3) .slices .words ≡ two-words) × (run (calls.edit (calls.insert C 9)) (lend two 3) .slices .keys ≡ two-keys)
 unfolding opened
-refused = refused-same (calls.insert C 9) (lend two 3) 4 refl (λ e. omega arith)
+refused = refused-same (calls.edit (calls.insert C 9)) (lend two 3) 4 refl (λ e. omega arith)
 
 -- and tells nothing but the 4
-refused-bare : tells.toldBy (run (calls.insert C 9) (lend two 3) .answer) ≡ tells.told 4 0 0 0 []
+refused-bare : tells.toldBy (run (calls.edit (calls.insert C 9)) (lend two 3) .answer) ≡ tells.told 4 0 0 0 []
 unfolding opened
-refused-bare = refused-told (calls.insert C 9) (lend two 3) 4 refl (λ e. omega arith)
+refused-bare = refused-told (calls.edit (calls.insert C 9)) (lend two 3) 4 refl (λ e. omega arith)
 
 -- ── scratch: five bytes for three records, and two ──
-cleared : run calls.check (lend two 5) .slices .scratch ≡ 0 ∷ 0 ∷ 0 ∷ 1 ∷ 1 ∷ []
+cleared : run (calls.ask calls.check) (lend two 5) .slices .scratch ≡ 0 ∷ 0 ∷ 0 ∷ 1 ∷ 1 ∷ []
 unfolding opened
-cleared = scratch-left calls.check (lend two 5)
+cleared = scratch-left (calls.ask calls.check) (lend two 5)
 
-untouched : run calls.check (lend two 2) .slices .scratch ≡ 1 ∷ 1 ∷ []
+untouched : run (calls.ask calls.check) (lend two 2) .slices .scratch ≡ 1 ∷ 1 ∷ []
 unfolding opened
-untouched = scratch-left calls.check (lend two 2)
+untouched = scratch-left (calls.ask calls.check) (lend two 2)
 
 -- ── the frame ──
 room-bytes : Bytes (room .keys)
@@ -89,11 +89,11 @@ room-bytes = tag-bytes (room .keys) refl
 
 put-framed : FrameKept (room .words) (room .keys) (three .words) (three .keys)
 unfolding opened
-put-framed = frame-kept (calls.insert C 9) tt (tag-bytes C refl) (lend room 5) room-bytes
+put-framed = frame-kept (calls.edit (calls.insert C 9)) tt (tag-bytes C refl) (lend room 5) room-bytes
 
 -- C in and out again, with a search between
 abbrev there-and-back : List Turn
-there-and-back = turn (insert C 9) (replicate 5 1) ∷ record { call = calls.search C; scratch = [] } ∷ turn (delete C) (replicate 5 1) ∷ []
+there-and-back = turn (insert C 9) (replicate 5 1) ∷ record { call = calls.query (calls.search C); scratch = [] } ∷ turn (delete C) (replicate 5 1) ∷ []
 
 back-framed : FrameKept (room .words) (room .keys) (after-all room there-and-back .words) (after-all room there-and-back .keys)
 back-framed = let c : Bytes C = tag-bytes C refl in frames-kept room room-bytes there-and-back (tt, (tt, (tt, tt))) (c, (c, (c, tt)))
@@ -118,27 +118,27 @@ B-found = two-reads .search B (tag-bytes B refl)
 abbrev on-two : calls.Call → calls.Answer
 on-two c = answered two (record { call = c; scratch = replicate 3 1 })
 
-B-listed : on-two (calls.search B) ≡ calls.found (found.Leaf 1 8)
+B-listed : on-two (calls.query (calls.search B)) ≡ calls.found (found.Leaf 1 8)
 unfolding opened
-B-listed = sound-listed two two-sound (record { call = calls.search B; scratch = replicate 3 1 }) (tag-bytes B refl) tt ∙ ap (λ (l : Listing Held). calls.found (answerOf (find exact B l))) two-holds
+B-listed = sound-listed two two-sound (record { call = calls.query (calls.search B); scratch = replicate 3 1 }) (tag-bytes B refl) tt ∙ ap (λ (l : Listing Held). calls.found (answerOf (find exact B l))) two-holds
 
 -- A with another total gives the old one, AB clashes, and A goes out with its total
-inserted-listed : (t : Tag) → Bytes t → length t ≤ 64 → (r : Inserted) × (on-two (calls.insert t 9) ≡ calls.inserted r) × InsertsListed two-sound t r
+inserted-listed : (t : Tag) → Bytes t → length t ≤ 64 → (r : Inserted) × (on-two (calls.edit (calls.insert t 9)) ≡ calls.inserted r) × InsertsListed two-sound t r
 unfolding opened
-inserted-listed t bytes short = sound-listed two two-sound (record { call = calls.insert t 9; scratch = replicate 3 1 }) bytes two-places .1 short
+inserted-listed t bytes short = sound-listed two two-sound (record { call = calls.edit (calls.insert t 9); scratch = replicate 3 1 }) bytes two-places .1 short
 
-A-over : on-two (calls.insert A 9) ≡ calls.inserted (inserted.Over 7)
+A-over : on-two (calls.edit (calls.insert A 9)) ≡ calls.inserted (inserted.Over 7)
 unfolding opened
 A-over = let z = inserted-listed A (tag-bytes A refl) (omega arith) in z .1 ∙ ap calls.inserted (z .2 .over (record { number = 0; total = 7 }) (ap (lookup A) two-holds))
 
-AB-clashes : on-two (calls.insert AB 9) ≡ calls.inserted inserted.Clash
+AB-clashes : on-two (calls.edit (calls.insert AB 9)) ≡ calls.inserted inserted.Clash
 unfolding opened
 AB-clashes = let z = inserted-listed AB (tag-bytes AB refl) (omega arith) in z .1 ∙ ap calls.inserted (z .2 .clashes (ap (judge AB) two-holds))
 
-A-gone : on-two (calls.delete A) ≡ calls.deleted (deleted.Gone 7)
+A-gone : on-two (calls.edit (calls.delete A)) ≡ calls.deleted (deleted.Gone 7)
 unfolding opened
 A-gone =
-    sound-listed two two-sound (record { call = calls.delete A; scratch = replicate 3 1 }) (tag-bytes A refl) two-places
+    sound-listed two two-sound (record { call = calls.edit (calls.delete A); scratch = replicate 3 1 }) (tag-bytes A refl) two-places
     ∙ ap (λ (l : Listing Held). calls.deleted (delete-meets.answerOf (lookup A l))) two-holds
 
 -- the first at or after AB is B

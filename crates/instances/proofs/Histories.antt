@@ -8,7 +8,7 @@ use Rattle.pools.specs.Start.{startOf}
 use Rattle.pools.specs.declared.start.Started.the-variants.{Done}
 use Rattle.reading.specs.Answers.{Bytes}
 use Rattle.pointed.proofs.Points.{tag-bytes}
-use Rattle.demands.specs.Calls.{Call, start, insert, delete}
+use Rattle.demands.specs.Calls.{query, ask, edit, Call, start, insert, delete}
 use Rattle.demands.specs.Histories.{Block, Turn, next, after-all, amended-all, Tally, tally, counted-all, AllBytes}
 use Rattle.demands.specs.Story.{Story}
 use Rattle.demands.proofs.Histories.{history}
@@ -27,7 +27,7 @@ first = next before (call (start (caps 2)))
 
 -- B; A; A again, with another total; AB, which clashes; C, for which there is no leaf; B out again
 abbrev calls : List Turn
-calls = call (insert B 8) ∷ call (insert A 7) ∷ call (insert A 9) ∷ call (insert AB 1) ∷ call (insert C 2) ∷ call (delete B) ∷ []
+calls = call (edit (insert B 8)) ∷ call (edit (insert A 7)) ∷ call (edit (insert A 9)) ∷ call (edit (insert AB 1)) ∷ call (edit (insert C 2)) ∷ call (edit (delete B)) ∷ []
 
 -- ── computed: the start is done, and the accepted calls define one tag with its total ──
 accepted : startOf (before .words) (before .keys) (caps 2) .answer ≡ Done

@@ -8,7 +8,7 @@ use Rattle.art.specs.Listings.{find}
 use Rattle.art.specs.Verdicts.{judge}
 use Rattle.whole.proofs.Samples.{two-sound}
 use Rattle.pointed.proofs.Points.{tag-bytes}
-use Rattle.demands.specs.Calls.{start, search, leaf-facts, check, insert}
+use Rattle.demands.specs.Calls.{query, ask, edit, start, search, leaf-facts, check, insert}
 use Rattle.demands.specs.Due as due
 use Rattle.demands.proofs.Numbers.{due-number, number-due}
 use Rattle.instances.specs.Opened.{opened}
@@ -29,16 +29,16 @@ given-dues (l ∷ ls) b g = (number-due (l .call) (l .lent) (l .number) (b .0) (
 -- ── a line for each number ──
 abbrev table : List Line
 table =
-    line (search A) (lend two 0) 0
-    ∷ line (search C) (lend two 0) 1
-    ∷ line (insert (replicate 65 65) 1) (lend two 3) 2
-    ∷ line (insert AB 1) (lend two 3) 3
-    ∷ line (insert C 1) (lend two 3) 4
-    ∷ line (insert B 1) (lend lone 2) 5
-    ∷ line check (lend broken 3) 6
-    ∷ line check (lend two 2) 7
+    line (query (search A)) (lend two 0) 0
+    ∷ line (query (search C)) (lend two 0) 1
+    ∷ line (edit (insert (replicate 65 65) 1)) (lend two 3) 2
+    ∷ line (edit (insert AB 1)) (lend two 3) 3
+    ∷ line (edit (insert C 1)) (lend two 3) 4
+    ∷ line (edit (insert B 1)) (lend lone 2) 5
+    ∷ line (ask check) (lend broken 3) 6
+    ∷ line (ask check) (lend two 2) 7
     ∷ line (start (caps 3)) (lend two 0) 8
-    ∷ line (leaf-facts 2) (lend two 0) 9
+    ∷ line (query (leaf-facts 2)) (lend two 0) 9
     ∷ []
 
 byted : Byted table

@@ -10,7 +10,7 @@ use Rattle.art.specs.Verdicts.{judge}
 use Rattle.whole.proofs.Samples.{two-sound}
 use Rattle.pointed.proofs.Points.{tag-bytes}
 use Rattle.reading.specs.Answers.{Bytes}
-use Rattle.demands.specs.Calls.{start, search, prefix-search, minimum, maximum, next-leaf, leaf-facts, check, first-at-or-after, insert, delete}
+use Rattle.demands.specs.Calls.{query, ask, edit, start, search, prefix-search, minimum, maximum, next-leaf, leaf-facts, check, first-at-or-after, insert, delete}
 use Rattle.demands.specs.Due as due
 use Rattle.demands.specs.Due.{InUse}
 use Rattle.instances.specs.Opened.{opened}
@@ -30,18 +30,18 @@ starts-due = due.start-refused refl then due.start-done refl then tt
 
 abbrev searches : List Line
 searches =
-    line (search A) (lend nothing 0) 6
-    ∷ line (search C) (lend two 0) 1
-    ∷ line (search A) (lend two 0) 0
-    ∷ line (prefix-search AB) (lend nothing 0) 6
-    ∷ line (prefix-search C) (lend two 0) 1
-    ∷ line (prefix-search AB) (lend two 0) 0
-    ∷ line minimum (lend nothing 0) 6
-    ∷ line minimum (lend bare 0) 1
-    ∷ line minimum (lend two 0) 0
-    ∷ line maximum (lend nothing 0) 6
-    ∷ line maximum (lend bare 0) 1
-    ∷ line maximum (lend two 0) 0
+    line (query (search A)) (lend nothing 0) 6
+    ∷ line (query (search C)) (lend two 0) 1
+    ∷ line (query (search A)) (lend two 0) 0
+    ∷ line (query (prefix-search AB)) (lend nothing 0) 6
+    ∷ line (query (prefix-search C)) (lend two 0) 1
+    ∷ line (query (prefix-search AB)) (lend two 0) 0
+    ∷ line (query minimum) (lend nothing 0) 6
+    ∷ line (query minimum) (lend bare 0) 1
+    ∷ line (query minimum) (lend two 0) 0
+    ∷ line (query maximum) (lend nothing 0) 6
+    ∷ line (query maximum) (lend bare 0) 1
+    ∷ line (query maximum) (lend two 0) 0
     ∷ []
 
 searches-due : Dues searches
@@ -80,18 +80,18 @@ astray-used = record { fits = refl; pool = refl; used = λ e. omega arith }
 
 abbrev leaves : List Line
 leaves =
-    line (next-leaf 0) (lend nothing 0) 6
-    ∷ line (next-leaf 2) (lend two 0) 9
-    ∷ line (next-leaf 1) (lend spare 0) 9
-    ∷ line (next-leaf 0) (lend overlong 0) 6
-    ∷ line (next-leaf 0) (lend astray 0) 6
-    ∷ line (next-leaf 1) (lend two 0) 1
-    ∷ line (next-leaf 0) (lend two 0) 0
-    ∷ line (leaf-facts 0) (lend nothing 0) 6
-    ∷ line (leaf-facts 2) (lend two 0) 9
-    ∷ line (leaf-facts 1) (lend spare 0) 9
-    ∷ line (leaf-facts 0) (lend overlong 0) 6
-    ∷ line (leaf-facts 0) (lend two 0) 0
+    line (query (next-leaf 0)) (lend nothing 0) 6
+    ∷ line (query (next-leaf 2)) (lend two 0) 9
+    ∷ line (query (next-leaf 1)) (lend spare 0) 9
+    ∷ line (query (next-leaf 0)) (lend overlong 0) 6
+    ∷ line (query (next-leaf 0)) (lend astray 0) 6
+    ∷ line (query (next-leaf 1)) (lend two 0) 1
+    ∷ line (query (next-leaf 0)) (lend two 0) 0
+    ∷ line (query (leaf-facts 0)) (lend nothing 0) 6
+    ∷ line (query (leaf-facts 2)) (lend two 0) 9
+    ∷ line (query (leaf-facts 1)) (lend spare 0) 9
+    ∷ line (query (leaf-facts 0)) (lend overlong 0) 6
+    ∷ line (query (leaf-facts 0)) (lend two 0) 0
     ∷ []
 
 leaves-due : Dues leaves
@@ -114,20 +114,20 @@ leaves-due =
 -- ── the calls with scratch ──
 abbrev scratched : List Line
 scratched =
-    line check (lend nothing 0) 6
-    ∷ line check (lend two 2) 7
-    ∷ line check (lend broken 3) 6
-    ∷ line check (lend two 3) 0
-    ∷ line (first-at-or-after A) (lend nothing 0) 6
-    ∷ line (first-at-or-after A) (lend two 2) 7
-    ∷ line (first-at-or-after A) (lend broken 3) 6
-    ∷ line (first-at-or-after C) (lend two 3) 1
-    ∷ line (first-at-or-after AB) (lend two 3) 0
-    ∷ line (delete A) (lend nothing 0) 6
-    ∷ line (delete A) (lend two 2) 7
-    ∷ line (delete A) (lend broken 3) 6
-    ∷ line (delete C) (lend two 3) 1
-    ∷ line (delete A) (lend two 3) 0
+    line (ask check) (lend nothing 0) 6
+    ∷ line (ask check) (lend two 2) 7
+    ∷ line (ask check) (lend broken 3) 6
+    ∷ line (ask check) (lend two 3) 0
+    ∷ line (ask (first-at-or-after A)) (lend nothing 0) 6
+    ∷ line (ask (first-at-or-after A)) (lend two 2) 7
+    ∷ line (ask (first-at-or-after A)) (lend broken 3) 6
+    ∷ line (ask (first-at-or-after C)) (lend two 3) 1
+    ∷ line (ask (first-at-or-after AB)) (lend two 3) 0
+    ∷ line (edit (delete A)) (lend nothing 0) 6
+    ∷ line (edit (delete A)) (lend two 2) 7
+    ∷ line (edit (delete A)) (lend broken 3) 6
+    ∷ line (edit (delete C)) (lend two 3) 1
+    ∷ line (edit (delete A)) (lend two 3) 0
     ∷ []
 
 scratched-due : Dues scratched
@@ -151,15 +151,15 @@ scratched-due =
 
 abbrev inserts : List Line
 inserts =
-    line (insert (replicate 65 65) 1) (lend nothing 0) 2
-    ∷ line (insert A 1) (lend nothing 0) 6
-    ∷ line (insert A 1) (lend two 2) 7
-    ∷ line (insert A 1) (lend broken 3) 6
-    ∷ line (insert A 1) (lend two 3) 0
-    ∷ line (insert AB 1) (lend two 3) 3
-    ∷ line (insert C 1) (lend two 3) 4
-    ∷ line (insert B 1) (lend lone 2) 5
-    ∷ line (insert C 1) (lend room 5) 0
+    line (edit (insert (replicate 65 65) 1)) (lend nothing 0) 2
+    ∷ line (edit (insert A 1)) (lend nothing 0) 6
+    ∷ line (edit (insert A 1)) (lend two 2) 7
+    ∷ line (edit (insert A 1)) (lend broken 3) 6
+    ∷ line (edit (insert A 1)) (lend two 3) 0
+    ∷ line (edit (insert AB 1)) (lend two 3) 3
+    ∷ line (edit (insert C 1)) (lend two 3) 4
+    ∷ line (edit (insert B 1)) (lend lone 2) 5
+    ∷ line (edit (insert C 1)) (lend room 5) 0
     ∷ []
 
 inserts-due : Dues inserts

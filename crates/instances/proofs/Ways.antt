@@ -10,7 +10,7 @@ use Rattle.art.specs.Stores.{Place, leaf-place, inner-place}
 use Rattle.tree.specs.declared.minmax.Edge.{Edge}
 use Rattle.tree.specs.declared.minmax.Edge.the-variants.{Low}
 use Rattle.pointed.proofs.Points.{tag-bytes}
-use Rattle.demands.specs.Calls.{search, prefix-search, minimum, maximum}
+use Rattle.demands.specs.Calls.{query, ask, edit, search, prefix-search, minimum, maximum}
 use Rattle.demands.specs.Histories.{Block}
 use Rattle.demands.specs.Due as due
 use Rattle.demands.specs.Way as way
@@ -82,17 +82,17 @@ around (suc passed) left e = way.child {left = left} {k = 1} {n = 0} (around pas
 -- ── a line for each case ──
 abbrev walks : List Line
 walks =
-    line (search A) (lend bare 0) 1
-    ∷ line (search A) (lend afar 0) 6
-    ∷ line (search A) (lend overlong 0) 6
-    ∷ line (search B) (lend overlong 0) 0
-    ∷ line (search A) (lend long 0) 1
-    ∷ line (search C) (lend two 0) 1
-    ∷ line (search AB) (lend two 0) 1
-    ∷ line (prefix-search AB) (lend two 0) 0
-    ∷ line minimum (lend bare 0) 1
-    ∷ line minimum (lend ring 0) 6
-    ∷ line maximum (lend ring 0) 0
+    line (query (search A)) (lend bare 0) 1
+    ∷ line (query (search A)) (lend afar 0) 6
+    ∷ line (query (search A)) (lend overlong 0) 6
+    ∷ line (query (search B)) (lend overlong 0) 0
+    ∷ line (query (search A)) (lend long 0) 1
+    ∷ line (query (search C)) (lend two 0) 1
+    ∷ line (query (search AB)) (lend two 0) 1
+    ∷ line (query (prefix-search AB)) (lend two 0) 0
+    ∷ line (query minimum) (lend bare 0) 1
+    ∷ line (query minimum) (lend ring 0) 6
+    ∷ line (query maximum) (lend ring 0) 0
     ∷ []
 
 walks-due : Dues walks

@@ -1,6 +1,6 @@
 -- `directory_c::directory_first_at_or_after` meets its contract: the answer as C sees it, and scratch as the call leaves it.
 use mathlib.Core.Path.{ap}
-use Rattle.range.specs.Range.{Answer}
+use Rattle.range.specs.Range.{Answer, afterOf}
 use Rattle.demands.specs.Calls.{after}
 use Rattle.directory_c.specs.Numbers.{foundIn, seen}
 use borrow.Author.Needs.{needs}
@@ -8,6 +8,7 @@ use Rattle.directory_c.proofs.directory_first_at_or_after.Statement.{st
 use Rattle.directory_c.proofs.directory_first_at_or_after.Tie as tie
 
 returns : tie.Need-returns
+unfolding afterOf
 returns c =
     let s = c .before .before .before .before .before .before .before .before .before .args in
     rw (c .after-found .ensures)
