@@ -22,7 +22,7 @@ use Rattle.insert.specs.Plan as insert-plan
 use Rattle.insert.specs.Apply.{newWords}
 use Rattle.insert.specs.declared.plan.Site.{Site}
 use Rattle.insert.specs.declared.plan.Plan.the-variants as new
-use Rattle.insert.proofs.Inserts.{one-form}
+use Rattle.insert.proofs.Inserts.{one-limit}
 use Rattle.insert.proofs.Sounds as insert-sounds
 use Rattle.insert.proofs.Overs as overs
 use Rattle.insert.specs.Meets.{newTotal}
@@ -35,7 +35,7 @@ use Rattle.delete.proofs.Answers as delete-answers
 
 -- there is one form
 pub frame-limit : {words keys : List ℕ} → Sound words keys → frame words .form .limit ≡ formOf 1 .limit
-frame-limit {words} {keys} s = ap (λ (g : Form). g .limit) (one-form words keys (s .fits))
+frame-limit {words} {keys} s = one-limit words keys (s .fits)
 
 module _ {words keys : List ℕ} (s : Sound words keys) (tag : List ℕ) (bytes : Bytes tag) where
   -- ── a new tag ──

@@ -13,7 +13,7 @@ use Rattle.frames.specs.Form.{formKnown, formOf, sizesOf}
 use Rattle.frames.specs.Frame.{capsOf, capsSmall, backsOf, backsMatch, formFits, trailerFits, trailerOf, frameFits, frameWith, frameOf, frame}
 use Rattle.frames.specs.declared.frame.Caps.{Caps}
 use Rattle.frames.specs.declared.frame.Frame.{Frame}
-use Rattle.frames.proofs.FormTable.{form-in}
+use Rattle.frames.proofs.FormTable.{form-rules}
 use Rattle.frames.proofs.Frames.{totals}
 use Rattle.reading.specs.Answers.{Bytes}
 use Rattle.insert.specs.Insert as insert-call
@@ -48,9 +48,10 @@ fits-made words keys e =
     ∷ eqb-true (getD t 4 0) (b .b4) (d .3) k ∷ eqb-true (getD t 5 0) (b .b5) (d .4) k
     ∷ getD t 6 0 ∷ getD t 7 0 ∷ getD t 8 0 ∷ getD t 9 0 ∷ getD t 10 0 ∷ eqb-true (getD t 15 0) (b .b1 + 16) (h .2) k ∷ []
 
--- the form is 1
-form-one : (words keys : List ℕ) → frameFits words keys ≡ true → getD (trailerOf words) 0 0 ≡ 1
-form-one words keys fits = omega (arith, form-in (getD (trailerOf words) 0 0) (totals words keys fits .known))
+-- the form's number is that of the trailer
+form-number : (words keys : List ℕ) → frameFits words keys ≡ true → frame words .form .number ≡ getD (trailerOf words) 0 0
+unfolding frameOf
+form-number words keys fits = form-rules (getD (trailerOf words) 0 0) (totals words keys fits .known) .number
 
 abbrev capsIn : Frame → Caps
 capsIn f = record { c1 = getD (f .caps) 1 0; c2 = getD (f .caps) 2 0; c3 = getD (f .caps) 3 0; c4 = getD (f .caps) 4 0; c5 = getD (f .caps) 5 0 }
@@ -61,7 +62,7 @@ unfolding frameOf
 fits-same words keys words′ keys′ fits fits′ e =
     let z = totals words keys fits in
     let z′ = totals words′ keys′ fits′ in
-    let n : getD (trailerOf words′) 0 0 ≡ getD (trailerOf words) 0 0 = form-one words′ keys′ fits′ ∙ sym (form-one words keys fits) in
+    let n : getD (trailerOf words′) 0 0 ≡ getD (trailerOf words) 0 0 = sym (form-number words′ keys′ fits′) ∙ ap (λ (f : Frame). f .form .number) e ∙ form-number words keys fits in
     let c : capsOf (trailerOf words′) ≡ capsOf (trailerOf words) = ap capsIn e in
     record {
       trailer = fits-made words′ keys′ fits′ ∙ ap₂ madeOf n c ∙ sym (fits-made words keys fits);

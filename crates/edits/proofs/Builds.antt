@@ -6,14 +6,16 @@ use native.Mathlib.Omega.{arith}
 use lib.ListN.{length, getD, set, replicate, length-set, length-replicate}
 use lib.Seq.{set-append-left}
 use lib.Dec.{lit≤}
-use borrow.Author.Tests.{eq-eqb}
-use Rattle.lists.specs.Scan.{nonzero, count, atMost}
+use borrow.Author.Tests.{eq-eqb, ne-eqb}
+use mathlib.Core.Bool.{Bool}
+use mathlib.Core.Logic.{inl, inr}
+use Rattle.lists.specs.Scan.{choose, nonzero, count, atMost}
 use Rattle.lists.specs.Part.{between, splice}
 use Rattle.lists.proofs.Tests.{all-zero, all-between, zeros-all, count-le}
 use Rattle.lists.proofs.Parts.{between-length}
 use Rattle.prefix.specs.declared.Prefix.{Prefix}
 use Rattle.frames.specs.Kind.{kindRow, bodyWords}
-use Rattle.frames.specs.Form.{header, recordWords}
+use Rattle.frames.specs.Form.{header, recordWords, Stores, packed, packOf}
 use Rattle.records.specs.Own.{bodyOk, directOk, BodyFits, childOf}
 use Rattle.records.specs.Row.{directRow, bodyRow, refFor}
 use Rattle.frames.specs.declared.form.Form.{Form}
@@ -23,18 +25,37 @@ use Rattle.edits.specs.Body.{tab, rowSpread, bodyOf}
 use Rattle.edits.specs.Record.{buildRec}
 use Rattle.lists.proofs.Pieces.{zeros-then, splice-left}
 
+-- ── stored bytes laid over the words of a head, one a word or packed ──
+pub two-words : (form : Form) → Stores form → (form .prefix ≡ 8 → ⊥) → form .prefix ≡ 2
+two-words form (inl e) n = absurd (n e)
+two-words form (inr e) n = e
+
+pub laid-plain : (form : Form) → form .prefix ≡ 8 → (rec stored l : List ℕ) → l ≡ stored
+    → splice rec (3 + form .counts) (3 + form .counts + 8) l ≡ splice rec (3 + form .counts) (header form) (packOf form stored)
+unfolding packOf
+laid-plain form e rec stored l h =
+    ap₂ (λ (z : ℕ) (x : List ℕ). splice rec (3 + form .counts) z x) (let q : 3 + form .counts + 8 ≡ header form = omega arith in q)
+    (h ∙ sym (ap (λ (b : Bool). choose b stored (packed stored)) (eq-eqb (form .prefix) 8 e)))
+
+pub laid-packed : (form : Form) → form .prefix ≡ 2 → (rec stored l : List ℕ) → l ≡ packed stored
+    → splice rec (3 + form .counts) (3 + form .counts + 2) l ≡ splice rec (3 + form .counts) (header form) (packOf form stored)
+unfolding packOf
+laid-packed form e rec stored l h =
+    ap₂ (λ (z : ℕ) (x : List ℕ). splice rec (3 + form .counts) z x) (let q : 3 + form .counts + 2 ≡ header form = omega arith in q)
+    (h ∙ sym (ap (λ (b : Bool). choose b stored (packed stored)) (ne-eqb (form .prefix) 8 (λ z. omega arith))))
+
 -- a head is written within its own words
-head-left : (form : Form) → form .prefix ≡ 8 → (kind n : ℕ) (p : Prefix) (x y : List ℕ) → header form ≤ length x
+head-left : (form : Form) → Stores form → (kind n : ℕ) (p : Prefix) (x y : List ℕ) → header form ≤ length x
     → setHead form kind n p (x ++ y) ≡ setHead form kind n p x ++ y
 unfolding setHead setPrefix
-head-left form eight kind n p x y h =
+head-left form stores kind n p x y h =
     let s = 3 + form .counts in
     let x2 = set (set x 0 kind) 1 n in
     let long : length (set x2 2 (p .full .0)) ≡ length x = length-set x2 2 (p .full .0) ∙ length-set (set x 0 kind) 1 n ∙ length-set x 0 kind in
-    ap (λ (l : List ℕ). splice (set (set l 1 n) 2 (p .full .0)) s (s + 8) (p .stored)) (set-append-left x y 0 kind (omega arith))
-    ∙ ap (λ (l : List ℕ). splice (set l 2 (p .full .0)) s (s + 8) (p .stored)) (set-append-left (set x 0 kind) y 1 n (omega (arith, length-set x 0 kind)))
-    ∙ ap (λ (l : List ℕ). splice l s (s + 8) (p .stored)) (set-append-left x2 y 2 (p .full .0) (omega (arith, long, length-set x2 2 (p .full .0))))
-    ∙ splice-left (set x2 2 (p .full .0)) y s (s + 8) (p .stored) (omega arith) (omega arith)
+    ap (λ (l : List ℕ). splice (set (set l 1 n) 2 (p .full .0)) s (header form) (packOf form (p .stored))) (set-append-left x y 0 kind (omega arith))
+    ∙ ap (λ (l : List ℕ). splice (set l 2 (p .full .0)) s (header form) (packOf form (p .stored))) (set-append-left (set x 0 kind) y 1 n (omega (arith, length-set x 0 kind)))
+    ∙ ap (λ (l : List ℕ). splice l s (header form) (packOf form (p .stored))) (set-append-left x2 y 2 (p .full .0) (omega (arith, long, length-set x2 2 (p .full .0))))
+    ∙ splice-left (set x2 2 (p .full .0)) y s (header form) (packOf form (p .stored)) (omega arith) (omega arith)
 
 -- a record in which every word is 0 has such a body
 module _ (form : Form) (kind : ℕ) (w : List ℕ) (n h e : ℕ) (zeros : w ≡ replicate n 0) (long : n ≡ recordWords form kind) (at : h ≡ header form) (end : e ≡ recordWords form kind) where
@@ -47,14 +68,14 @@ module _ (form : Form) (kind : ℕ) (w : List ℕ) (n h e : ℕ) (zeros : w ≡ 
       ∙ ap (λ (k : ℕ). replicate k 0) m
 
   -- with a body and a head laid over the zeros it is the record of the row
-  pub built : form .prefix ≡ 8 → (p : Prefix) (places body : List ℕ) (m : ℕ) → m ≡ count nonzero places → body ≡ bodyOf kind (directRow places)
+  pub built : Stores form → (p : Prefix) (places body : List ℕ) (m : ℕ) → m ≡ count nonzero places → body ≡ bodyOf kind (directRow places)
       → setHead form kind m p (splice w h e body) ≡ buildRec form kind p (directRow places)
   unfolding buildRec
-  built eight p places body m many b =
+  built stores p places body m many b =
       let z = replicate {A = ℕ} (header form) 0 in
       ap (λ (x : List ℕ). setHead form kind m p (splice x h e body)) (zeros ∙ ap (λ (k : ℕ). replicate k 0) (long ∙ sym end))
       ∙ ap (setHead form kind m p) (zeros-then h e body (omega arith) ∙ ap (λ (k : ℕ). replicate k 0 ++ body) at)
-      ∙ head-left form eight kind m p z body (omega (arith, length-replicate {A = ℕ} (header form) 0))
+      ∙ head-left form stores kind m p z body (omega (arith, length-replicate {A = ℕ} (header form) 0))
       ∙ ap₂ (λ (k : ℕ) (l : List ℕ). setHead form kind k p z ++ l) (many ∙ sym (filled-length 0 places)) b
 
 -- ── kind 4: the table of a table's own row is the table ──

@@ -6,6 +6,7 @@ use lib.ListN.{length}
 use Rattle.prefix.specs.Run.{held}
 use Rattle.prefix.specs.declared.Prefix.{Prefix}
 use Rattle.frames.specs.Kind.{childrenOf}
+use Rattle.frames.specs.Form.{Stores}
 use Rattle.records.specs.Row.{directRow, Climbs}
 use Rattle.records.specs.View.{Held, places, innerCell}
 use Rattle.frames.specs.declared.form.Form.{Form}
@@ -23,18 +24,18 @@ use Rattle.edits.proofs.Inners.{inner-shows, change-inner, prefix-inner
 abbrev shown : Prefix → List (ℕ × Place) → Cell Held
 shown p refs = inner-cell (p .full .0) (held p) refs
 
-module _ {form : Form} (eight : form .prefix ≡ 8) {kind : ℕ} {rec : List ℕ} {p : Prefix} {row : Row} (i : Inner form kind rec p row) where
+module _ {form : Form} (stores : Stores form) {kind : ℕ} {rec : List ℕ} {p : Prefix} {row : Row} (i : Inner form kind rec p row) where
   pub change-cell : (b : ℕ) → b < 256 → (change : Change) → Takes (childrenOf kind) b change row → 2 ≤ countIn change (length row)
       → innerCell form kind (changeOf form kind rec b change) ≡ inner-cell (p .full .0) (held p) (refsChange b change (places row))
-  change-cell b low change takes two = inner-shows (change-inner eight i b low change takes two) ∙ ap (shown p) (change-places b change row)
+  change-cell b low change takes two = inner-shows (change-inner stores i b low change takes two) ∙ ap (shown p) (change-places b change row)
 
   pub prefix-cell : (q : Prefix) → PrefixFits form q → innerCell form kind (setPrefix form q rec) ≡ inner-cell (q .full .0) (held q) (places row)
-  prefix-cell q f = inner-shows (prefix-inner eight i q f)
+  prefix-cell q f = inner-shows (prefix-inner stores i q f)
 
   pub move-cell : (to : ℕ) → 1 ≤ to → to ≤ 4 → length row ≤ childrenOf to
       → innerCell form to (buildRec form to p (directRow (spreadOf form kind rec))) ≡ inner-cell (p .full .0) (held p) (places row)
-  move-cell to low high few = inner-shows (move-inner eight i to low high few)
+  move-cell to low high few = inner-shows (move-inner stores i to low high few)
 
-pub build-cell : (form : Form) → form .prefix ≡ 8 → (kind : ℕ) (p : Prefix) (row : Row) → 1 ≤ kind → kind ≤ 4 → PrefixFits form p → 2 ≤ length row → length row ≤ childrenOf kind
+pub build-cell : (form : Form) → Stores form → (kind : ℕ) (p : Prefix) (row : Row) → 1 ≤ kind → kind ≤ 4 → PrefixFits form p → 2 ≤ length row → length row ≤ childrenOf kind
     → Climbs 0 row → innerCell form kind (buildRec form kind p row) ≡ inner-cell (p .full .0) (held p) (places row)
-build-cell form eight kind p row low high f two few c = inner-shows (build-inner form eight kind p row low high f two few c)
+build-cell form stores kind p row low high f two few c = inner-shows (build-inner form stores kind p row low high f two few c)

@@ -14,7 +14,8 @@ use Rattle.lists.proofs.Parts.{between-length, between-at, between-left, betwee
 use Rattle.prefix.specs.Run.{capped, held}
 use Rattle.prefix.specs.declared.Prefix.{Prefix}
 use Rattle.frames.specs.Kind.{childrenOf, bodyWords}
-use Rattle.frames.specs.Form.{header, recordWords, storedOf}
+use Rattle.frames.specs.Form.{header, recordWords, Stores, packOf, unpackOf, storedOf}
+use Rattle.frames.proofs.FormTable.{stored-eight, pack-length, unpack-pack, stored-part}
 use Rattle.records.specs.Own.{prefixAt, headOk, bodyOk, bodyPart, innerOk, childAt, InnerFits}
 use Rattle.records.specs.Row.{bodyRow, rowAt, refFor, directRow, Climbs}
 use Rattle.records.specs.View.{Held, places, innerCell}
@@ -68,9 +69,9 @@ module _ {form : Form} {kind : ℕ} {rec : List ℕ} {p : Prefix} {row : Row} (i
   inner-child b h = holds-child inner-holds b h
 
   pub inner-fits : PrefixFits form p
-  unfolding prefixAt storedOf
+  unfolding prefixAt
   inner-fits =
-      subst (PrefixFits form) (i .prefix) (record { short = rule .head .short; eight = refl; bytes = rule .head .bytes; rest = rule .head .rest })
+      subst (PrefixFits form) (i .prefix) (record { short = rule .head .short; eight = stored-eight form rec; bytes = rule .head .bytes; rest = rule .head .rest })
 
   -- the cell
   pub inner-shows : innerCell form kind rec ≡ inner-cell (p .full .0) (held p) (places row)
@@ -111,34 +112,15 @@ inner-made form kind rec n p body row long h f two e s =
       shows = ap₂ (bodyRow kind) e (h .second) ∙ s .shows;
     }
 
--- the stored bytes are a part of the record
-stored-part : (form : Form) (rec : List ℕ) → 3 + form .counts + 8 ≤ length rec → storedOf form rec ≡ between rec (3 + form .counts) (3 + form .counts + 8)
-unfolding storedOf
-stored-part form rec h =
-    let a = 3 + form .counts in
-    let n : length (between rec a (a + 8)) ≡ 8 = between-length rec a (a + 8) (omega arith) h ∙ omega arith in
-    ext-getD 0 (storedOf form rec) (between rec a (a + 8)) (sym n) (λ i l. at i l ∙ sym (between-at rec a (a + 8) i (omega arith)))
-  where
-    at : (i : ℕ) → i < 8 → getD (storedOf form rec) i 0 ≡ getD rec (3 + form .counts + i) 0
-    at zero l = ap (λ (j : ℕ). getD rec j 0) (let q : 3 + form .counts ≡ 3 + form .counts + 0 = omega arith in q)
-    at (suc zero) l = refl
-    at (suc (suc zero)) l = refl
-    at (suc (suc (suc zero))) l = refl
-    at (suc (suc (suc (suc zero)))) l = refl
-    at (suc (suc (suc (suc (suc zero))))) l = refl
-    at (suc (suc (suc (suc (suc (suc zero)))))) l = refl
-    at (suc (suc (suc (suc (suc (suc (suc zero))))))) l = refl
-    at (suc (suc (suc (suc (suc (suc (suc (suc i)))))))) l = absurd (omega arith)
-
 -- the prefix from its two parts
-prefix-of : (form : Form) (rec : List ℕ) (p : Prefix) → 3 + form .counts + 8 ≤ length rec → getD rec 2 0 ≡ p .full .0
-    → between rec (3 + form .counts) (3 + form .counts + 8) ≡ p .stored → prefixAt form rec ≡ p
+prefix-of : (form : Form) → Stores form → (rec : List ℕ) (p : Prefix) → header form ≤ length rec → getD rec 2 0 ≡ p .full .0
+    → unpackOf form (between rec (3 + form .counts) (header form)) ≡ p .stored → prefixAt form rec ≡ p
 unfolding prefixAt
-prefix-of form rec p h full stored =
-    ap₂ (λ (n : ℕ) (l : List ℕ). record { full = record { 0 = n }; stored = l }) full (stored-part form rec h ∙ stored)
+prefix-of form stores rec p h full stored =
+    ap₂ (λ (n : ℕ) (l : List ℕ). record { full = record { 0 = n }; stored = l }) full (stored-part form stores rec h ∙ stored)
 
 -- ── another body and child count ──
-module _ (form : Form) (eight : form .prefix ≡ 8) (kind : ℕ) (rec body : List ℕ) (m : ℕ) (long : length rec ≡ recordWords form kind) (size : length body ≡ bodyWords kind) where
+module _ (form : Form) (stores : Stores form) (kind : ℕ) (rec body : List ℕ) (m : ℕ) (long : length rec ≡ recordWords form kind) (size : length body ≡ bodyWords kind) where
   abbrev base : List ℕ
   base = withBody form kind rec body
 
@@ -151,10 +133,10 @@ module _ (form : Form) (eight : form .prefix ≡ 8) (kind : ℕ) (rec body : Lis
   word : (i : ℕ) → i < 3 → getD base i 0 ≡ getD rec i 0
   word i h = splice-at-before rec (header form) (recordWords form kind) body (omega arith) (omega arith) fits i (omega arith)
 
-  stored : between (set base 1 m) (3 + form .counts) (3 + form .counts + 8) ≡ between rec (3 + form .counts) (3 + form .counts + 8)
+  stored : between (set base 1 m) (3 + form .counts) (header form) ≡ between rec (3 + form .counts) (header form)
   stored =
-      between-set-before base (3 + form .counts) (3 + form .counts + 8) 1 m (omega arith)
-      ∙ splice-before rec (header form) (recordWords form kind) body (omega arith) (omega arith) fits (3 + form .counts) (3 + form .counts + 8) (omega arith) (omega arith)
+      between-set-before base (3 + form .counts) (header form) 1 m (omega arith)
+      ∙ splice-before rec (header form) (recordWords form kind) body (omega arith) (omega arith) fits (3 + form .counts) (header form) (omega arith) (omega arith)
 
   body-head : Head form (set base 1 m) (getD rec 0 0) m (prefixAt form rec)
   unfolding prefixAt
@@ -163,9 +145,9 @@ module _ (form : Form) (eight : form .prefix ≡ 8) (kind : ℕ) (rec body : Lis
         first = getD-set-other base 1 0 m 0 (λ z. omega arith) ∙ word 0 (omega arith);
         second = getD-set-same base 1 m 0 (omega (arith, base-long));
         prefix =
-            prefix-of form (set base 1 m) (prefixAt form rec) (omega (arith, length-set base 1 m, base-long))
+            prefix-of form stores (set base 1 m) (prefixAt form rec) (omega (arith, length-set base 1 m, base-long))
             (getD-set-other base 1 2 m 0 (λ z. omega arith) ∙ word 2 (omega arith))
-            (stored ∙ sym (stored-part form rec (omega arith)));
+            (ap (unpackOf form) stored ∙ sym (stored-part form stores rec (omega arith)));
       }
 
   body-part : bodyPart form kind (set base 1 m) ≡ body
@@ -176,13 +158,13 @@ module _ (form : Form) (eight : form .prefix ≡ 8) (kind : ℕ) (rec body : Lis
   body-long : length (set base 1 m) ≡ recordWords form kind
   body-long = length-set base 1 m ∙ base-long ∙ long
 
-module _ {form : Form} (eight : form .prefix ≡ 8) {kind : ℕ} {rec : List ℕ} {p : Prefix} {row : Row} (i : Inner form kind rec p row) where
+module _ {form : Form} (stores : Stores form) {kind : ℕ} {rec : List ℕ} {p : Prefix} {row : Row} (i : Inner form kind rec p row) where
   with-body : (body : List ℕ) (m : ℕ) (more : Row) → 2 ≤ m → Holds kind body m more → Inner form kind (set (withBody form kind rec body) 1 m) p more
   with-body body m more two h =
-      let head = body-head form eight kind rec body m (i .fits .long) (h .fits .long) in
-      inner-made form kind (set (withBody form kind rec body) 1 m) m p body more (body-long form eight kind rec body m (i .fits .long) (h .fits .long))
+      let head = body-head form stores kind rec body m (i .fits .long) (h .fits .long) in
+      inner-made form kind (set (withBody form kind rec body) 1 m) m p body more (body-long form stores kind rec body m (i .fits .long) (h .fits .long))
       (record { first = head .first ∙ inner-kind i; second = head .second; prefix = head .prefix ∙ i .prefix }) (inner-fits i) two
-      (body-part form eight kind rec body m (i .fits .long) (h .fits .long)) h
+      (body-part form stores kind rec body m (i .fits .long) (h .fits .long)) h
 
   -- any change that leaves two
   pub change-inner : (b : ℕ) → b < 256 → (change : Change) → Takes (childrenOf kind) b change row → 2 ≤ countIn change (length row)
@@ -193,7 +175,7 @@ module _ {form : Form} (eight : form .prefix ≡ 8) {kind : ℕ} {rec : List ℕ
       (subst (λ (n : ℕ). 2 ≤ countIn change n) (inner-size i) two) (holds-change (inner-holds i) b low change takes)
 
 -- ── another prefix ──
-module _ (form : Form) (p : Prefix) (rec : List ℕ) (eight : length (p .stored) ≡ 8) (long : 3 + form .counts + 8 ≤ length rec) where
+module _ (form : Form) (stores : Stores form) (p : Prefix) (rec : List ℕ) (eight : length (p .stored) ≡ 8) (long : header form ≤ length rec) where
   abbrev full : List ℕ
   full = set rec 2 (p .full .0)
 
@@ -203,45 +185,48 @@ module _ (form : Form) (p : Prefix) (rec : List ℕ) (eight : length (p .stored)
   full-long : length full ≡ length rec
   full-long = length-set rec 2 (p .full .0)
 
-  fits-8 : length (p .stored) ≡ s + 8 - s
-  fits-8 = eight ∙ omega arith
+  abbrev words : List ℕ
+  words = packOf form (p .stored)
+
+  fits-8 : length words ≡ header form - s
+  fits-8 = pack-length form stores (p .stored) eight ∙ omega arith
 
   pub prefix-long : length (setPrefix form p rec) ≡ length rec
   unfolding setPrefix
-  prefix-long = splice-length full s (s + 8) (p .stored) (omega arith) (omega (arith, full-long)) fits-8 ∙ full-long
+  prefix-long = splice-length full s (header form) words (omega arith) (omega (arith, full-long)) fits-8 ∙ full-long
 
   early : (i : ℕ) → i < 3 → getD (setPrefix form p rec) i 0 ≡ getD full i 0
   unfolding setPrefix
-  early i h = splice-at-before full s (s + 8) (p .stored) (omega arith) (omega (arith, full-long)) fits-8 i (omega arith)
+  early i h = splice-at-before full s (header form) words (omega arith) (omega (arith, full-long)) fits-8 i (omega arith)
 
-  pub prefix-head : Head form (setPrefix form p rec) (getD rec 0 0) (getD rec 1 0) p
+  pub prefix-head : all (atMost 255) (p .stored) ≡ true → Head form (setPrefix form p rec) (getD rec 0 0) (getD rec 1 0) p
   unfolding setPrefix
-  prefix-head =
+  prefix-head bytes =
       record {
         first = early 0 (omega arith) ∙ getD-set-other rec 2 0 (p .full .0) 0 (λ z. omega arith);
         second = early 1 (omega arith) ∙ getD-set-other rec 2 1 (p .full .0) 0 (λ z. omega arith);
         prefix =
-            prefix-of form (setPrefix form p rec) p (omega (arith, prefix-long))
+            prefix-of form stores (setPrefix form p rec) p (omega (arith, prefix-long))
             (early 2 (omega arith) ∙ getD-set-same rec 2 (p .full .0) 0 (omega arith))
-            (splice-same full s (s + 8) (p .stored) (omega arith) (omega (arith, full-long)) fits-8);
+            (ap (unpackOf form) (splice-same full s (header form) words (omega arith) (omega (arith, full-long)) fits-8) ∙ unpack-pack form (p .stored) eight bytes);
       }
 
-  pub prefix-after : (a e : ℕ) → s + 8 ≤ a → between (setPrefix form p rec) a e ≡ between rec a e
+  pub prefix-after : (a e : ℕ) → header form ≤ a → between (setPrefix form p rec) a e ≡ between rec a e
   unfolding setPrefix
   prefix-after a e h =
-      splice-after full s (s + 8) (p .stored) (omega arith) (omega (arith, full-long)) fits-8 a e h ∙ between-set-before rec a e 2 (p .full .0) (omega arith)
+      splice-after full s (header form) words (omega arith) (omega (arith, full-long)) fits-8 a e h ∙ between-set-before rec a e 2 (p .full .0) (omega arith)
 
-pub prefix-inner : {form : Form} → form .prefix ≡ 8 → {kind : ℕ} {rec : List ℕ} {q : Prefix} {row : Row} → Inner form kind rec q row → (p : Prefix) → PrefixFits form p
+pub prefix-inner : {form : Form} → Stores form → {kind : ℕ} {rec : List ℕ} {q : Prefix} {row : Row} → Inner form kind rec q row → (p : Prefix) → PrefixFits form p
     → Inner form kind (setPrefix form p rec) p row
-prefix-inner {form} eight {kind} {rec} {q} {row} i p f =
-    let room : 3 + form .counts + 8 ≤ length rec = omega (arith, i .fits .long) in
-    let head = prefix-head form p rec (f .eight) room in
-    inner-made form kind (setPrefix form p rec) (getD rec 1 0) p (bodyPart form kind rec) row (prefix-long form p rec (f .eight) room ∙ i .fits .long)
+prefix-inner {form} stores {kind} {rec} {q} {row} i p f =
+    let room : header form ≤ length rec = omega (arith, i .fits .long) in
+    let head = prefix-head form stores p rec (f .eight) room (f .bytes) in
+    inner-made form kind (setPrefix form p rec) (getD rec 1 0) p (bodyPart form kind rec) row (prefix-long form stores p rec (f .eight) room ∙ i .fits .long)
     (record { first = head .first ∙ inner-kind i; second = head .second; prefix = head .prefix }) f (omega (arith, inner-two i, inner-size i))
-    (prefix-after form p rec (f .eight) room (header form) (recordWords form kind) (omega arith)) (inner-holds i)
+    (prefix-after form stores p rec (f .eight) room (header form) (recordWords form kind) (omega arith)) (inner-holds i)
 
 -- ── a record built from a prefix and a row ──
-module _ (form : Form) (eight : form .prefix ≡ 8) (kind : ℕ) (p : Prefix) (f : PrefixFits form p) (n : ℕ) where
+module _ (form : Form) (stores : Stores form) (kind : ℕ) (p : Prefix) (f : PrefixFits form p) (n : ℕ) where
   abbrev start : List ℕ
   start = set (set (replicate (header form) 0) 0 kind) 1 n
 
@@ -250,12 +235,12 @@ module _ (form : Form) (eight : form .prefix ≡ 8) (kind : ℕ) (p : Prefix) (f
 
   head-long : length (setHead form kind n p (replicate (header form) 0)) ≡ header form
   unfolding setHead
-  head-long = prefix-long form p start (f .eight) (omega (arith, start-long)) ∙ start-long
+  head-long = prefix-long form stores p start (f .eight) (omega (arith, start-long)) ∙ start-long
 
   head-head : Head form (setHead form kind n p (replicate (header form) 0)) kind n p
   unfolding setHead
   head-head =
-      let h = prefix-head form p start (f .eight) (omega (arith, start-long)) in
+      let h = prefix-head form stores p start (f .eight) (omega (arith, start-long)) (f .bytes) in
       let zero-long = length-replicate {A = ℕ} (header form) 0 in
       record {
         first = h .first ∙ getD-set-other (set (replicate (header form) 0) 0 kind) 1 0 n 0 (λ z. omega arith) ∙ getD-set-same (replicate (header form) 0) 0 kind 0 (omega arith);
@@ -264,36 +249,36 @@ module _ (form : Form) (eight : form .prefix ≡ 8) (kind : ℕ) (p : Prefix) (f
       }
 
 -- a head goes on with any body
-head-on : (form : Form) (l body : List ℕ) (kind n : ℕ) (p : Prefix) → 3 + form .counts + 8 ≤ length l → Head form l kind n p → Head form (l ++ body) kind n p
+head-on : (form : Form) → Stores form → (l body : List ℕ) (kind n : ℕ) (p : Prefix) → header form ≤ length l → Head form l kind n p → Head form (l ++ body) kind n p
 unfolding prefixAt
-head-on form l body kind n p long h =
+head-on form stores l body kind n p long h =
     let a = 3 + form .counts in
     record {
       first = List·getD-append l body 0 0 (omega arith) ∙ h .first;
       second = List·getD-append l body 0 1 (omega arith) ∙ h .second;
       prefix =
-          prefix-of form (l ++ body) p (omega (arith, length-append l body))
+          prefix-of form stores (l ++ body) p (omega (arith, length-append l body))
           (List·getD-append l body 0 2 (omega arith) ∙ ap (λ (q : Prefix). q .full .0) (h .prefix))
-          (between-left l body a (a + 8) (omega arith) long ∙ sym (stored-part form l long) ∙ ap (λ (q : Prefix). q .stored) (h .prefix));
+          (ap (unpackOf form) (between-left l body a (header form) (omega arith) long) ∙ sym (stored-part form stores l long) ∙ ap (λ (q : Prefix). q .stored) (h .prefix));
     }
 
-pub build-inner : (form : Form) → form .prefix ≡ 8 → (kind : ℕ) (p : Prefix) (row : Row) → 1 ≤ kind → kind ≤ 4 → PrefixFits form p → 2 ≤ length row → length row ≤ childrenOf kind
+pub build-inner : (form : Form) → Stores form → (kind : ℕ) (p : Prefix) (row : Row) → 1 ≤ kind → kind ≤ 4 → PrefixFits form p → 2 ≤ length row → length row ≤ childrenOf kind
     → Climbs 0 row → Inner form kind (buildRec form kind p row) p row
 unfolding buildRec
-build-inner form eight kind p row low high f two few c =
+build-inner form stores kind p row low high f two few c =
     let n = length row in
     let head = setHead form kind n p (replicate (header form) 0) in
     let body = bodyOf kind row in
     let h = holds-built kind row low high few c in
-    let hl = head-long form eight kind p f n in
-    inner-made form kind (head ++ body) n p body row (omega (arith, length-append head body, hl, h .fits .long)) (head-on form head body kind n p (omega (arith, hl)) (head-head form eight kind p f n)) f two
+    let hl = head-long form stores kind p f n in
+    inner-made form kind (head ++ body) n p body row (omega (arith, length-append head body, hl, h .fits .long)) (head-on form stores head body kind n p (omega (arith, hl)) (head-head form stores kind p f n)) f two
     (ap (λ (l : List ℕ). between (head ++ l) (header form) (recordWords form kind)) (sym (append-nil body))
     ∙ between-middle head body [] (header form) (recordWords form kind) hl (h .fits .long ∙ omega arith))
     h
 
 -- ── a record moved to another kind, with its children in byte order ──
-pub move-inner : {form : Form} → form .prefix ≡ 8 → {kind : ℕ} {rec : List ℕ} {p : Prefix} {row : Row} → Inner form kind rec p row → (to : ℕ) → 1 ≤ to → to ≤ 4
+pub move-inner : {form : Form} → Stores form → {kind : ℕ} {rec : List ℕ} {p : Prefix} {row : Row} → Inner form kind rec p row → (to : ℕ) → 1 ≤ to → to ≤ 4
     → length row ≤ childrenOf to → Inner form to (buildRec form to p (directRow (spreadOf form kind rec))) p row
-move-inner {form} eight {kind} {rec} {p} {row} i to low high few =
+move-inner {form} stores {kind} {rec} {p} {row} i to low high few =
     subst (λ (l : Row). Inner form to (buildRec form to p l) p row) (sym (spread-of i .1))
-    (build-inner form eight to p row low high (inner-fits i) (inner-two i) few (inner-climbs i))
+    (build-inner form stores to p row low high (inner-fits i) (inner-two i) few (inner-climbs i))

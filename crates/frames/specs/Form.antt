@@ -1,9 +1,12 @@
 -- The forms: how long an inner record's head is, where its prefix is stored, and the longest tag.
-use Prim.Native.Nat.{ℕ, _+_, _-_, _≤_}
+use Prim.Native.Nat.{ℕ, _+_, _-_, _*_, _/_, _%_, _≤_}
+use mathlib.Core.Path.{_≡_}
+use mathlib.Core.Logic.{_⊎_}
 use mathlib.Core.List.{List, [], _∷_}
 use mathlib.Core.Bool.{Bool, _&&_}
 use lib.ListN.{length, getD}
-use lib.Dec.{leb}
+use lib.Dec.{eqb, leb}
+use Rattle.lists.specs.Scan.{choose}
 use Rattle.frames.specs.Kind.{bodyWords}
 use Rattle.frames.specs.declared.form.Form.{Form}
 use Rattle.frames.specs.declared.form.Sizes.{Sizes}
@@ -57,6 +60,42 @@ eightFrom rec a =
     ∷ getD rec (a + 7) 0
     ∷ []
 
--- the eight stored prefix bytes, one a word, after the count below
+-- the eight bytes of two words, lowest first
+abbrev pub eightIn : ℕ → ℕ → List ℕ
+eightIn w v =
+    w % 256
+    ∷ w / 256 % 256
+    ∷ w / 65536 % 256
+    ∷ w / 16777216
+    ∷ v % 256
+    ∷ v / 256 % 256
+    ∷ v / 65536 % 256
+    ∷ v / 16777216
+    ∷ []
+
+-- four bytes as a word, lowest first
+abbrev pub wordOf : ℕ → ℕ → ℕ → ℕ → ℕ
+wordOf a b c d = a % 256 + b % 256 * 256 + c % 256 * 65536 + d % 256 * 16777216
+
+-- eight bytes as two words
+abbrev pub packed : List ℕ → List ℕ
+packed l =
+    wordOf (getD l 0 0) (getD l 1 0) (getD l 2 0) (getD l 3 0)
+    ∷ wordOf (getD l 4 0) (getD l 5 0) (getD l 6 0) (getD l 7 0)
+    ∷ []
+
+-- a form stores them one a word, or packed
+abbrev pub Stores : Form → Type 0
+Stores form = (form .prefix ≡ 8) ⊎ (form .prefix ≡ 2)
+
+-- the words that eight stored bytes take
+unfoldable pub packOf : Form → List ℕ → List ℕ
+packOf form l = choose (eqb (form .prefix) 8) l (packed l)
+
+-- the bytes that such words hold
+unfoldable pub unpackOf : Form → List ℕ → List ℕ
+unpackOf form l = choose (eqb (form .prefix) 8) l (eightIn (getD l 0 0) (getD l 1 0))
+
+-- the eight stored prefix bytes, after the count below
 unfoldable pub storedOf : Form → List ℕ → List ℕ
-storedOf form rec = eightFrom rec (3 + form .counts)
+storedOf form rec = choose (eqb (form .prefix) 8) (eightFrom rec (3 + form .counts)) (eightIn (getD rec (3 + form .counts) 0) (getD rec (3 + form .counts + 1) 0))

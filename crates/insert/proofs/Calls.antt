@@ -12,7 +12,7 @@ use Rattle.frames.specs.Form.{formOf}
 use Rattle.frames.specs.Frame.{trailerOf, rootWord, frameFits, frameOf, FrameOf, frame}
 use Rattle.frames.specs.Place.{inPool, recordAt}
 use Rattle.frames.specs.declared.frame.Frame.{Frame}
-use Rattle.frames.proofs.FormTable.{form-in}
+use Rattle.frames.proofs.FormTable.{known-limit}
 use Rattle.frames.proofs.Frames.{totals}
 use Rattle.records.specs.Own.{totalOf}
 use Rattle.art.specs.Stores.{leaf-place}
@@ -84,13 +84,10 @@ module _ (f : Frame) (words keys tag : List ℕ) {leaf : ℕ} where
       go false e = point-over (pointOf f words keys tag (rootWord words)) h e
 
 -- ── a plan for a sound block is ready ──
--- a frame that fits is of form 1
+-- every known form has the limit that insert tests
 limit-one : (words keys : List ℕ) → frameFits words keys ≡ true → formOf 1 .limit ≡ frame words .form .limit
-unfolding frameOf
-limit-one words keys e =
-    let k : ℕ = getD (trailerOf words) 0 0 in
-    let h = form-in k (totals words keys e .known) in
-    ap (λ (n : ℕ). formOf n .limit) (let q : 1 ≡ k = omega (arith, h .0, h .1) in q)
+unfolding frameOf formOf
+limit-one words keys e = sym (known-limit (getD (trailerOf words) 0 0) (totals words keys e .known))
 
 module _ {words keys : List ℕ} (w : FrameOf (frame words) words keys) (s : Sound words keys) (tag : List ℕ) (b : Bytes tag) (k : Bytes keys)
     (l : length tag ≤ frame words .form .limit) where

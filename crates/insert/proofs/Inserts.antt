@@ -12,7 +12,7 @@ use Rattle.frames.specs.Frame.{trailerOf, frameFits, frameOf, frame}
 use Rattle.frames.specs.Place.{recordAt}
 use Rattle.frames.specs.declared.form.Form.{Form}
 use Rattle.frames.specs.declared.frame.Frame.{Frame}
-use Rattle.frames.proofs.FormTable.{form-in}
+use Rattle.frames.proofs.FormTable.{known-limit}
 use Rattle.frames.proofs.Frames.{totals}
 use Rattle.records.specs.Own.{totalOf}
 use Rattle.art.specs.Deletes.{held}
@@ -59,12 +59,10 @@ module _ {words keys : List ℕ} (s : Sound words keys) (tag : List ℕ) (tag-by
   plan-meets Broken e h = absurd h
 
 -- ── the call ──
--- every known form has the limit that insert tests, since form 1 is the only one
-pub one-form : (words keys : List ℕ) → frameFits words keys ≡ true → frame words .form ≡ formOf 1
-unfolding frameOf
-one-form words keys fits =
-    let k = form-in (getD (trailerOf words) 0 0) (totals words keys fits .known) in
-    ap formOf (let e : getD (trailerOf words) 0 0 ≡ 1 = omega (arith, k) in e)
+-- every known form has the limit that insert tests
+pub one-limit : (words keys : List ℕ) → frameFits words keys ≡ true → frame words .form .limit ≡ formOf 1 .limit
+unfolding frameOf formOf
+one-limit words keys fits = known-limit (getD (trailerOf words) 0 0) (totals words keys fits .known)
 
 -- with scratch enough the check finds the block sound
 checked-sound : {words keys : List ℕ} → Sound words keys → (scratch : List ℕ) → placesIn (frame words) ≤ length scratch
@@ -87,5 +85,5 @@ pub insert-meets : {words keys : List ℕ} (s : Sound words keys) (scratch tag :
     → Inserts s tag total (insertOf words keys scratch tag total)
 insert-meets {words} {keys} s scratch tag total tag-bytes key-bytes h short =
     subst (Inserts s tag total) (sym (on-sound s scratch tag total h short))
-    (plan-meets s tag tag-bytes key-bytes (subst (λ (g : Form). length tag ≤ g .limit) (sym (one-form words keys (s .fits))) short) (check.cleared (placesIn (frame words)) scratch) total
+    (plan-meets s tag tag-bytes key-bytes (omega (arith, one-limit words keys (s .fits))) (check.cleared (placesIn (frame words)) scratch) total
     (planOf (frame words) words keys tag) refl (plan-answers s tag tag-bytes))

@@ -5,7 +5,8 @@ use mathlib.Core.List.{[], _∷_}
 use native.Mathlib.Omega.{arith}
 use Rattle.prefix.specs.Run.{prefixOf}
 use Rattle.prefix.specs.declared.Prefix.{Prefix}
-use Rattle.frames.specs.Form.{formOf}
+use Rattle.frames.specs.Form.{formOf, Stores}
+use mathlib.Core.Logic.{inl}
 use Rattle.frames.proofs.KindTable.{kind-rules}
 use Rattle.records.specs.Row.{directRow, Climbs}
 use Rattle.records.specs.View.{innerCell}
@@ -27,9 +28,9 @@ run = prefixOf (76 ∷ 49 ∷ [])
 abbrev row : Row
 row = (65, 5) ∷ (66, 13) ∷ (67, 21) ∷ []
 
-eight : formOf 1 .prefix ≡ 8
+eight : Stores (formOf 1)
 unfolding opened
-eight = refl
+eight = inl refl
 
 pub run-fits : PrefixFits (formOf 1) run
 unfolding opened

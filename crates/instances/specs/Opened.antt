@@ -8,7 +8,7 @@ use Rattle.art.specs.Changes.{meet, has}
 use Rattle.art.specs.Nodes.{meets-dec}
 use Rattle.art.specs.Puts.{less-dec}
 use Rattle.art.specs.Tags.{order, tag-dec, begins-dec, fits-dec}
-use Rattle.frames.specs.Form.{formKnown, formOf, storedOf}
+use Rattle.frames.specs.Form.{formKnown, formOf, packOf, unpackOf, storedOf}
 use Rattle.frames.specs.Frame.{formFits, trailerFits, frameFits, frameOf}
 use Rattle.frames.specs.Kind.{kindRow}
 use Rattle.records.specs.Own.{prefixAt, headOk, sortedOk, indirectOk, directOk, bodyOk, innerOk, sortedChild, indirectChild, childOf, childAt, leafOk, totalOf}
@@ -54,7 +54,7 @@ art-opened = tt
 
 -- of frames: the form, the frame and the kinds
 unfoldable pub frames-opened : Unit {0}
-unfolding formKnown formOf storedOf formFits trailerFits frameFits frameOf kindRow
+unfolding formKnown formOf packOf unpackOf storedOf formFits trailerFits frameFits frameOf kindRow
 frames-opened = tt
 
 -- of records: a record's own rule, its children and its cell

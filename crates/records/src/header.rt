@@ -2,7 +2,7 @@
 ghost use mathlib.Core.Path.{_≡_};
 ghost use Prim.Native.Nat.{_≤_, _<_, _+_, _^_};
 ghost use lib.ListN.{length, getD};
-ghost use Rattle.frames.specs.Form.{eightFrom, storedOf};
+ghost use Rattle.frames.specs.Form.{eightFrom, eightIn, storedOf};
 ghost use Rattle.records.specs.Words.{childCount, fullLength};
 ghost use Rattle.records.specs.Own.{headOk, prefixAt};
 use frames::form::Form;
@@ -74,11 +74,32 @@ fn eight(s: &[u32], a: usize) -> [u32; 8]
     ]
 }
 
-// The eight stored prefix bytes, one a word, after the count below.
+// The eight bytes of two words, lowest first.
+fn eight_in(w: u32, v: u32) -> [u32; 8]
+    ensures { λ r. ⌜ r ≡ eightIn w v ⌝ }
+{
+    [
+        w % 256,
+        w / 256 % 256,
+        w / 65536 % 256,
+        w / 16777216,
+        v % 256,
+        v / 256 % 256,
+        v / 65536 % 256,
+        v / 16777216,
+    ]
+}
+
+// The eight stored prefix bytes, one a word or four, after the count below.
 fn stored_of(form: Form, rec: &[u32]) -> [u32; 8]
     ensures { λ r. ⌜ r ≡ storedOf form (now (rec .entry)) ⌝ }
 {
     let a = 3 + form.counts as usize;
+    if form.prefix != 8 {
+        let w = word(rec, a);
+        let v = word(rec, a + 1);
+        return eight_in(w, v);
+    }
     if a + 8 <= rec.len() {
         return eight(rec, a);
     }

@@ -6,7 +6,7 @@ use Rattle.prefix.specs.Match.{matchOf}
 use Rattle.lists.specs.Part.{splice}
 use Rattle.lists.specs.Edit.{shiftIn, shiftOut}
 use Rattle.frames.specs.Kind.{kindRow}
-use Rattle.frames.specs.Form.{formKnown, formOf, storedOf}
+use Rattle.frames.specs.Form.{formKnown, formOf, packOf, storedOf}
 use Rattle.frames.specs.Frame.{formFits, trailerFits, frameFits, frameOf}
 use Rattle.records.specs.Own.{prefixAt, headOk, sortedOk, bodyOk, innerOk, sortedChild, childOf, childAt, leafOk, totalOf}
 use Rattle.records.specs.Row.{bodyRow}
@@ -41,5 +41,5 @@ use Rattle.sheet.specs.Sheet.{step, givenFrom, wantedOf, given, wanted, 
 
 -- rows a to l, with every block on the way sound
 pub sheet : given rows ≡ wanted rows
-unfolding prefixOf splitOf mergeOf matchOf splice shiftIn shiftOut kindRow formKnown formOf storedOf formFits trailerFits frameFits frameOf prefixAt headOk sortedOk bodyOk innerOk sortedChild childOf childAt leafOk totalOf bodyRow cellOf setPrefix setHead sortedAdd sortedRemove bodyChange sortedBody bodyOf changeOf buildRec lowestFree freeKind setTrailer setLink setNext setPrevious leafWords startFits trailerWords startOf arrivalAt withFrame edgeRef edgeStep edgeOf walk.leafAnswer walk.innerStep walk.stepOf walk.walkOf placesIn fresh reached tagAt goesOn storedAgrees leafVisit turnAt rowEnd rowBy recordBy sweptAt sweptPool swept rootWay wayWell wholeBy checkOf range.below range.leafStep range.stepOf range.afterFrom range.afterOf points.leafPoint points.runOf points.innerStep points.stepOf points.pointFrom points.pointOf changeAt prefixedAt branchAt clearAt leafIn keyIn leafOut keyOut insert-plan.intoChoice insert-plan.forkChoice insert-plan.leafPlan insert-plan.pointPlan insert-plan.planOf forked hung newWords insertSound insertChecked insertOf delete-plan.otherEntry delete-plan.cutUnder delete-plan.pointPlan delete-plan.planOf merged pruned goneWords deleteSound deleteChecked deleteOf order tag-dec begins-dec ℕ-discrete step givenFrom wantedOf given wanted rows
+unfolding prefixOf splitOf mergeOf matchOf splice shiftIn shiftOut kindRow formKnown formOf packOf storedOf formFits trailerFits frameFits frameOf prefixAt headOk sortedOk bodyOk innerOk sortedChild childOf childAt leafOk totalOf bodyRow cellOf setPrefix setHead sortedAdd sortedRemove bodyChange sortedBody bodyOf changeOf buildRec lowestFree freeKind setTrailer setLink setNext setPrevious leafWords startFits trailerWords startOf arrivalAt withFrame edgeRef edgeStep edgeOf walk.leafAnswer walk.innerStep walk.stepOf walk.walkOf placesIn fresh reached tagAt goesOn storedAgrees leafVisit turnAt rowEnd rowBy recordBy sweptAt sweptPool swept rootWay wayWell wholeBy checkOf range.below range.leafStep range.stepOf range.afterFrom range.afterOf points.leafPoint points.runOf points.innerStep points.stepOf points.pointFrom points.pointOf changeAt prefixedAt branchAt clearAt leafIn keyIn leafOut keyOut insert-plan.intoChoice insert-plan.forkChoice insert-plan.leafPlan insert-plan.pointPlan insert-plan.planOf forked hung newWords insertSound insertChecked insertOf delete-plan.otherEntry delete-plan.cutUnder delete-plan.pointPlan delete-plan.planOf merged pruned goneWords deleteSound deleteChecked deleteOf order tag-dec begins-dec ℕ-discrete step givenFrom wantedOf given wanted rows
 sheet = refl

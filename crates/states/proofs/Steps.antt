@@ -47,7 +47,7 @@ use Rattle.whole.specs.Witness.{tagAt, LeafSeen}
 use Rattle.points.specs.There.{InnerHere, HasChild}
 use Rattle.writes.specs.At.{changeAt, prefixedAt, branchAt, moveAt, dropAt, clearAt}
 use Rattle.writes.specs.Leaf.{leafIn, keyIn, leafOut, keyOut, totalAt}
-use Rattle.writes.proofs.Spots.{frame-eight}
+use Rattle.writes.proofs.Spots.{frame-stores}
 use Rattle.states.specs.State.{State}
 use Rattle.states.proofs.Children.{find-none, find-some}
 use Rattle.states.proofs.OneCell.{state-changed, inner-state, inner-put}
@@ -122,7 +122,7 @@ module _ {f : Frame} {words keys : List ℕ} {σ : Store Held} {links : Links} {
       let rec = recordAt f words (inner-place k n) in
       let row = rowAt (f .form) k rec in
       inner-put s k n (changeOf (f .form) k rec b change) (prefixAt (f .form) rec) (rowChange b change row) len st (refsChange b change rs) (h .pool)
-      (change-inner (frame-eight (s .frame)) (h .own) b low change takes (subst (λ (m : ℕ). 2 ≤ countIn change m) (sym (h .size)) two)) (h .len-is) (h .stored-is) (change-places b change row ∙ ap (refsChange b change) (h .refs-are))
+      (change-inner (frame-stores (s .frame)) (h .own) b low change takes (subst (λ (m : ℕ). 2 ≤ countIn change m) (sym (h .size)) two)) (h .len-is) (h .stored-is) (change-places b change row ∙ ap (refsChange b change) (h .refs-are))
 
   pub state-add : (k n len : ℕ) (st : List ℕ) (rs : Refs) (b : ℕ) (y : Place) → σ (inner-place k n) ≡ inner-cell len st rs → find-ref rs b ≡ none → b < 256 → length rs < childrenOf k
       → inPool f y ≡ true → State f (changeAt f (inner-place k n) b (Add (refOf y)) words) keys (write σ (inner-place k n) (inner-cell len st (add-ref b y rs))) links root count
@@ -152,7 +152,7 @@ module _ {f : Frame} {words keys : List ℕ} {σ : Store Held} {links : Links} {
   state-prefix k n len st rs p e fits =
       let h = stands s k n len st rs e in
       let rec = recordAt f words (inner-place k n) in
-      inner-put s k n (setPrefix (f .form) p rec) p (rowAt (f .form) k rec) (p .full .0) (held p) rs (h .pool) (prefix-inner (frame-eight (s .frame)) (h .own) p fits) refl refl (h .refs-are)
+      inner-put s k n (setPrefix (f .form) p rec) p (rowAt (f .form) k rec) (p .full .0) (held p) rs (h .pool) (prefix-inner (frame-stores (s .frame)) (h .own) p fits) refl refl (h .refs-are)
 
   pub state-branch : (k n : ℕ) (p : Prefix) (b c : ℕ) (y z : Place) → inPool f (inner-place k n) ≡ true → PrefixFits (f .form) p → b < 256 → c < 256 → b ≢ c → inPool f y ≡ true → inPool f z ≡ true
       → State f (branchAt f (inner-place k n) p b (refOf y) c (refOf z) words) keys (write σ (inner-place k n) (inner-cell (p .full .0) (held p) (pair-ref b y c z))) links root count
@@ -162,7 +162,7 @@ module _ {f : Frame} {words keys : List ℕ} {σ : Store Held} {links : Links} {
       let row = rowPair b (refOf y) c (refOf z) in
       let r = pair-climbs b (refOf y) c (refOf z) ne bl cl (ref-some (s .frame) y py) (ref-some (s .frame) z pz) in
       inner-put s k n (buildRec (f .form) k p row) p row (p .full .0) (held p) (pair-ref b y c z) pool
-      (build-inner (f .form) (frame-eight (s .frame)) k p row (kind .0) (kind .1) fits (omega (arith, r .0)) (omega (arith, r .0, kind-rules k (kind .0) (kind .1) .least)) (r .1)) refl refl
+      (build-inner (f .form) (frame-stores (s .frame)) k p row (kind .0) (kind .1) fits (omega (arith, r .0)) (omega (arith, r .0, kind-rules k (kind .0) (kind .1) .least)) (r .1)) refl refl
       (pair-places b (refOf y) c (refOf z) ne ∙ ap₂ (λ (t u : Place). pair-ref b t c u) (place-ref f y py) (place-ref f z pz))
 
   -- a record written anew at another place, with all its children, and without one
@@ -174,7 +174,7 @@ module _ {f : Frame} {words keys : List ℕ} {σ : Store Held} {links : Links} {
       let kind = inner-kind (s .frame) j m pool in
       let rec = recordAt f words (inner-place k n) in
       inner-put s j m (buildRec (f .form) j (prefixAt (f .form) rec) (directRow (spreadOf (f .form) k rec))) (prefixAt (f .form) rec) (rowAt (f .form) k rec) len st rs pool
-      (move-inner (frame-eight (s .frame)) (h .own) j (kind .0) (kind .1) (omega (arith, h .size))) (h .len-is) (h .stored-is) (h .refs-are)
+      (move-inner (frame-stores (s .frame)) (h .own) j (kind .0) (kind .1) (omega (arith, h .size))) (h .len-is) (h .stored-is) (h .refs-are)
 
   pub state-drop : (k n len : ℕ) (st : List ℕ) (rs : Refs) (b : ℕ) (z : Place) (j m : ℕ) → σ (inner-place k n) ≡ inner-cell len st rs → find-ref rs b ≡ some z → 3 ≤ length rs
       → inPool f (inner-place j m) ≡ true → length rs ≤ childrenOf j + 1
@@ -194,7 +194,7 @@ module _ {f : Frame} {words keys : List ℕ} {σ : Store Held} {links : Links} {
       let size = remove-length b row (c .1) in
       inner-put s j m (buildRec (f .form) j p (directRow (set l b 0))) p (rowRemove b row) len st (cut-ref b rs) pool
       (subst (λ (r : Row). Inner (f .form) j (buildRec (f .form) j p r) p (rowRemove b row)) (sym without)
-      (build-inner (f .form) (frame-eight (s .frame)) j p (rowRemove b row) (kind .0) (kind .1) (inner-fits (h .own)) (omega (arith, h .size)) (omega (arith, h .size))
+      (build-inner (f .form) (frame-stores (s .frame)) j p (rowRemove b row) (kind .0) (kind .1) (inner-fits (h .own)) (omega (arith, h .size)) (omega (arith, h .size))
       (remove-climbs b 0 row (inner-climbs (h .own))))) (h .len-is) (h .stored-is) (remove-places b row ∙ ap (cut-ref b) (h .refs-are))
 
   pub state-clear : (k n : ℕ) → inPool f (inner-place k n) ≡ true → State f (clearAt f (inner-place k n) words) keys (write σ (inner-place k n) unused) links root count

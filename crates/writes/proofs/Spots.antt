@@ -9,11 +9,11 @@ use Rattle.lists.specs.Scan.{count, nonzero}
 use Rattle.lists.specs.Part.{between, splice}
 use Rattle.prefix.specs.declared.Prefix.{Prefix}
 use Rattle.frames.specs.Kind.{childrenOf}
-use Rattle.frames.specs.Form.{forms, noForm, formKnown, formOf, recordWords}
+use Rattle.frames.specs.Form.{Stores, recordWords}
 use Rattle.frames.specs.Frame.{FrameOf, frameOf, trailerOf}
 use Rattle.frames.specs.Place.{placeAt, inPool, startAt, sizeAt, recordAt, putAt, putKey}
 use Rattle.frames.specs.declared.frame.Frame.{Frame}
-use Rattle.frames.proofs.FormTable.{form-in}
+use Rattle.frames.proofs.FormTable.{form-rules}
 use Rattle.frames.proofs.Frames.{totals}
 use Rattle.frames.proofs.Places.{place-room, record-length, key-length}
 use Rattle.records.specs.Own.{prefixAt, childAt}
@@ -94,26 +94,20 @@ pub record-long : {f : Frame} {words keys : List ℕ} → FrameOf f words keys �
 record-long {f} {words} {keys} w x h = record-length w x (h .pool) ∙ inner-size f x (h .high)
 
 -- ── the form ──
-known-eight : (n : ℕ) → formKnown n ≡ true → formOf n .prefix ≡ 8
-unfolding formOf
-known-eight n e =
-    let q : n - 1 < 1 = form-in n e .1 in
-    ap (λ (m : ℕ). getD forms m noForm .prefix) (let z : n - 1 ≡ 0 = omega arith in z)
-
-pub frame-eight : {f : Frame} {words keys : List ℕ} → FrameOf f words keys → f .form .prefix ≡ 8
+pub frame-stores : {f : Frame} {words keys : List ℕ} → FrameOf f words keys → Stores (f .form)
 unfolding frameOf
-frame-eight {f} {words} {keys} w =
-    ap (λ (g : Frame). g .form .prefix) (w .read) ∙ known-eight (getD (trailerOf words) 0 0) (totals words keys (w .fits) .known)
+frame-stores {f} {words} {keys} w =
+    subst (λ (g : Frame). Stores (g .form)) (sym (w .read)) (form-rules (getD (trailerOf words) 0 0) (totals words keys (w .fits) .known) .stores)
 
 -- a record can be built at the part, from these places
 pub build-ready : {f : Frame} {words keys : List ℕ} → FrameOf f words keys → (ref a e : ℕ) → a ≡ startAt f (placeAt ref)
     → e ≡ startAt f (placeAt ref) + sizeAt f (placeAt ref) → InnerPlace f (placeAt ref) → (p : Prefix) → length (p .stored) ≡ 8
     → (t : List ℕ) → length t ≡ 256 → count nonzero t ≤ childrenOf (kindAt (placeAt ref))
     → (((1 ≤ ref % 8) × (ref % 8 ≤ 4)) × (length (between words a e) ≡ recordWords (f .form) (ref % 8)))
-    × (((f .form .prefix ≡ 8) × (length (p .stored) ≡ 8)) × ((length t ≡ 256) × (count nonzero t ≤ childrenOf (ref % 8))))
+    × ((Stores (f .form) × (length (p .stored) ≡ 8)) × ((length t ≡ 256) × (count nonzero t ≤ childrenOf (ref % 8))))
 build-ready {f} {words} {keys} w ref a e start end h p stored t long few =
     let r = room-of w ref h in
-    (((r .low, r .high), part-has f words ref start end (λ (k : ℕ) (l : List ℕ). length l ≡ recordWords (f .form) k) (record-long w (placeAt ref) h)), ((frame-eight w, stored), (long, subst (λ (k : ℕ). count nonzero t ≤ childrenOf k) (place-kind ref) few)))
+    (((r .low, r .high), part-has f words ref start end (λ (k : ℕ) (l : List ℕ). length l ≡ recordWords (f .form) k) (record-long w (placeAt ref) h)), ((frame-stores w, stored), (long, subst (λ (k : ℕ). count nonzero t ≤ childrenOf k) (place-kind ref) few)))
 
 -- ── leaves ──
 -- a leaf's key bytes are a part of the key bytes

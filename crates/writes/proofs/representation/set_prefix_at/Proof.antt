@@ -6,7 +6,7 @@ use Rattle.lists.specs.Part.{splice}
 use Rattle.frames.specs.Form.{header}
 use Rattle.edits.specs.Head.{setPrefix}
 use Rattle.writes.specs.At.{prefixedAt}
-use Rattle.writes.proofs.Spots.{part-has, part-made, frame-eight}
+use Rattle.writes.proofs.Spots.{part-has, part-made, frame-stores}
 use borrow.Author.Needs.{needs}
 use Rattle.writes.proofs.representation.set_prefix_at.Statement.{statement}
 use Rattle.writes.proofs.representation.set_prefix_at.Tie as tie
@@ -17,7 +17,7 @@ set-prefix-requires c κs =
     let s = b1 .before .before .before .before in
     let part = b1 .part-at .ensures in
     let form = s .args .f .form in
-    (frame-eight (s .pre .0), (part-has (s .args .f) (s .args .words .now) (s .args .reference) (part .0) (part .1 .0) (λ k l. header form ≤ length l) (omega (arith, s .pre .1 .0 .fits .long)), s .pre .1 .1))
+    (frame-stores (s .pre .0), (part-has (s .args .f) (s .args .words .now) (s .args .reference) (part .0) (part .1 .0) (λ k l. header form ≤ length l) (omega (arith, s .pre .1 .0 .fits .long)), s .pre .1 .1))
 
 returns : tie.Need-returns
 unfolding prefixedAt splice
