@@ -12,15 +12,15 @@ use Rattle.art.proofs.Trees.{sorted}
 use Rattle.art.specs.Trees.{Tree, leaf, inner, Row, end, child, contents, row-contents, Good, GoodRow, Above, count}
 use Rattle.art.proofs.Nodes.{walk-is-find}
 use Rattle.art.specs.Nodes.{Node, leaf-node, inner-node, NodeRow, end-node, child-node, show, show-row, walk}
-use Rattle.art.specs.Agree.{node-count, NodeAbove, Agrees, AgreesRow, OfTree, OfRow, node-place, node-refs, ShowsNode, ShowsNodes, AgreesFrom, node-contents, node-row-contents, node-erase, node-row-erase}
+use Rattle.art.specs.Agree.{node-count, NodeAbove, Agrees, AgreesRow, OfTree, OfRow, node-place, node-refs, ShowsNode, ShowsNodes, AgreesFrom, node-contents, node-row-contents, node-sketch, node-row-sketch}
 use Rattle.art.specs.Deletes.{Sane}
 use Rattle.art.specs.Calls.{OnceOf}
 use Rattle.art.specs.Points.{store-of}
 use Rattle.art.specs.Stores.{Place, inner-cell, Store, root, refs}
 use Rattle.art.specs.Walks.{Shows, ShowsRow}
 use Rattle.art.proofs.Walks.{store-shows}
-use Rattle.art.proofs.Drawings.{erase-is-draw}
-use Rattle.art.specs.Drawings.{branch, kid, erase, erase-row, draw}
+use Rattle.art.proofs.Drawings.{sketch-is-draw}
+use Rattle.art.specs.Drawings.{branch, kid, sketch, sketch-row, draw}
 
 module _ {A : Type 0} where
   -- ── a node agrees exactly where it shows a good tree ──
@@ -100,13 +100,13 @@ module _ {A : Type 0} where
         ap₂ (λ (l m : Listing A). l ++ m) (show-contents t (q ++ b ∷ []) ∙ sym (under-under q (b ∷ []) (contents t))) (show-row-contents r q) ∙ sym (under-append q (under (b ∷ []) (contents t)) (row-contents r))
 
   mutual
-    show-erase : (t : Tree A) (p : Tag) → node-erase (show p t) ≡ erase p t
-    show-erase (leaf n s a) p = refl
-    show-erase (inner k n run r) p = ap (branch (length run) (take 8 run)) (show-row-erase r (p ++ run))
+    show-sketch : (t : Tree A) (p : Tag) → node-sketch (show p t) ≡ sketch p t
+    show-sketch (leaf n s a) p = refl
+    show-sketch (inner k n run r) p = ap (branch (length run) (take 8 run)) (show-row-sketch r (p ++ run))
 
-    show-row-erase : (r : Row A) (q : Tag) → node-row-erase (show-row q r) ≡ erase-row q r
-    show-row-erase end q = refl
-    show-row-erase (child b t r) q = ap₂ (kid b) (show-erase t (q ++ b ∷ [])) (show-row-erase r q)
+    show-row-sketch : (r : Row A) (q : Tag) → node-row-sketch (show-row q r) ≡ sketch-row q r
+    show-row-sketch end q = refl
+    show-row-sketch (child b t r) q = ap₂ (kid b) (show-sketch t (q ++ b ∷ [])) (show-row-sketch r q)
 
   root-contents : (t : Tree A) → node-contents (show [] t) ≡ contents t
   root-contents t = show-contents t [] ∙ under-nil (contents t)
@@ -121,5 +121,5 @@ module _ {A : Type 0} where
   agrees-find node h m s = let t = agrees-seen node [] h in rw (← t .2) (rw (root-contents (t .0)) (walk-is-find (t .0) (t .1) m s))
 
   -- such records draw what the tags alone draw
-  pub agrees-draw : (node : Node A) → Agrees node [] → node-erase node ≡ draw (node-contents node)
-  agrees-draw node h = let t = agrees-seen node [] h in rw (← t .2) (rw (root-contents (t .0)) (show-erase (t .0) [] ∙ erase-is-draw (t .0) (t .1)))
+  pub agrees-draw : (node : Node A) → Agrees node [] → node-sketch node ≡ draw (node-contents node)
+  agrees-draw node h = let t = agrees-seen node [] h in rw (← t .2) (rw (root-contents (t .0)) (show-sketch (t .0) [] ∙ sketch-is-draw (t .0) (t .1)))

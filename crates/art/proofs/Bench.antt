@@ -8,7 +8,7 @@ use native.Mathlib.Decide.{decLe}
 use Rattle.art.specs.Tags.{Tag, exact, order, tag-dec, fits-dec}
 use Rattle.art.specs.Trees.{Tree, leaf, contents}
 use Rattle.art.specs.Nodes.{show, walk, meets-dec}
-use Rattle.art.specs.Drawings.{one, branch, done, kid, erase, draw}
+use Rattle.art.specs.Drawings.{one, branch, done, kid, sketch, draw}
 use Rattle.art.specs.Changes.{Plan, grow, meet}
 use Rattle.art.specs.Deletes.{stay, change}
 
@@ -33,12 +33,12 @@ abbrev f-tree : Tree ℕ
 f-tree = grow e-tree plan (65 ∷ 66 ∷ 67 ∷ 68 ∷ 69 ∷ 70 ∷ 71 ∷ 72 ∷ 73 ∷ 88 ∷ []) 3
 
 -- row e: one branching of length 10 with ABCDEFGH stored, over the two tags
-row-e : erase [] e-tree ≡ branch 10 (65 ∷ 66 ∷ 67 ∷ 68 ∷ 69 ∷ 70 ∷ 71 ∷ 72 ∷ []) (kid 49 (one (AtoJ ++ 49 ∷ []) 1) (kid 50 (one (AtoJ ++ 50 ∷ []) 2) done))
+row-e : sketch [] e-tree ≡ branch 10 (65 ∷ 66 ∷ 67 ∷ 68 ∷ 69 ∷ 70 ∷ 71 ∷ 72 ∷ []) (kid 49 (one (AtoJ ++ 49 ∷ []) 1) (kid 50 (one (AtoJ ++ 50 ∷ []) 2) done))
 unfolding meet order
 row-e = refl
 
 -- row e: the tags alone draw the same
-row-e-draw : draw (contents e-tree) ≡ erase [] e-tree
+row-e-draw : draw (contents e-tree) ≡ sketch [] e-tree
 unfolding meet order
 row-e-draw = refl
 
@@ -48,12 +48,12 @@ unfolding meet order fits-dec decLe meets-dec
 row-e-search = refl
 
 -- row f: a branching of length 9 at the root, whose child J is a branching of length 0 over the two tags of row e, and X the new tag
-row-f : erase [] f-tree ≡ branch 9 (65 ∷ 66 ∷ 67 ∷ 68 ∷ 69 ∷ 70 ∷ 71 ∷ 72 ∷ []) (kid 74 (branch 0 [] (kid 49 (one (AtoJ ++ 49 ∷ []) 1) (kid 50 (one (AtoJ ++ 50 ∷ []) 2) done))) (kid 88 (one (65 ∷ 66 ∷ 67 ∷ 68 ∷ 69 ∷ 70 ∷ 71 ∷ 72 ∷ 73 ∷ 88 ∷ []) 3) done))
+row-f : sketch [] f-tree ≡ branch 9 (65 ∷ 66 ∷ 67 ∷ 68 ∷ 69 ∷ 70 ∷ 71 ∷ 72 ∷ []) (kid 74 (branch 0 [] (kid 49 (one (AtoJ ++ 49 ∷ []) 1) (kid 50 (one (AtoJ ++ 50 ∷ []) 2) done))) (kid 88 (one (65 ∷ 66 ∷ 67 ∷ 68 ∷ 69 ∷ 70 ∷ 71 ∷ 72 ∷ 73 ∷ 88 ∷ []) 3) done))
 unfolding meet order
 row-f = refl
 
 -- row g: a branching of length 1 with A at the root, whose child B is one of length 8 with CDEFGHIJ, and X the new tag
-row-g : erase [] g-tree ≡ branch 1 (65 ∷ []) (kid 66 (branch 8 (67 ∷ 68 ∷ 69 ∷ 70 ∷ 71 ∷ 72 ∷ 73 ∷ 74 ∷ []) (kid 49 (one (AtoJ ++ 49 ∷ []) 1) (kid 50 (one (AtoJ ++ 50 ∷ []) 2) done))) (kid 88 (one (65 ∷ 88 ∷ []) 3) done))
+row-g : sketch [] g-tree ≡ branch 1 (65 ∷ []) (kid 66 (branch 8 (67 ∷ 68 ∷ 69 ∷ 70 ∷ 71 ∷ 72 ∷ 73 ∷ 74 ∷ []) (kid 49 (one (AtoJ ++ 49 ∷ []) 1) (kid 50 (one (AtoJ ++ 50 ∷ []) 2) done))) (kid 88 (one (65 ∷ 88 ∷ []) 3) done))
 unfolding meet order
 row-g = refl
 

@@ -11,7 +11,7 @@ use Rattle.art.proofs.Listings.{every-imp, every-of-under, every-left, 
 use Rattle.art.specs.Listings.{Every, under, strip}
 use Rattle.art.proofs.Trees.{row-above}
 use Rattle.art.specs.Trees.{Tree, leaf, inner, Row, end, child, contents, row-contents, Good, GoodRow, Many, HeadAbove}
-use Rattle.art.specs.Drawings.{branch, kid, common, Groups, shared-with, shared-run, add, add-entry, groups, kids-of, draw-at, longest, draw, erase, erase-row, Filled, Two, Some}
+use Rattle.art.specs.Drawings.{branch, kid, common, Groups, shared-with, shared-run, add, add-entry, groups, kids-of, draw-at, longest, draw, sketch, sketch-row, Filled, Two, Some}
 
 -- two tags below a path share the path and what they share from there on
 pub common-under : (p s t : Tag) → common (p ++ s) (p ++ t) ≡ p ++ common s t
@@ -132,26 +132,26 @@ module _ {A : Type 0} where
 
   mutual
     -- below a path, a tree draws what its tags draw, with more steps left than the longest tag has bytes
-    pub erase-draw : (t : Tree A) → Good t → (f : ℕ) → Every (λ s. length s < f) (contents t) → (p : Tag) → erase p t ≡ draw-at f p (contents t)
-    erase-draw (leaf n s a) g zero h p = absurd (omega arith)
-    erase-draw (leaf n s a) g (suc f) h p = refl
-    erase-draw (inner k n run r) g zero h p = absurd (none-short (under run (row-contents r)) (filled-under run (row-contents r) (some-filled r (g .1) (many-some r (g .0)))) h)
-    erase-draw (inner k n run r) g (suc f) h p =
+    pub sketch-draw : (t : Tree A) → Good t → (f : ℕ) → Every (λ s. length s < f) (contents t) → (p : Tag) → sketch p t ≡ draw-at f p (contents t)
+    sketch-draw (leaf n s a) g zero h p = absurd (omega arith)
+    sketch-draw (leaf n s a) g (suc f) h p = refl
+    sketch-draw (inner k n run r) g zero h p = absurd (none-short (under run (row-contents r)) (filled-under run (row-contents r) (some-filled r (g .1) (many-some r (g .0)))) h)
+    sketch-draw (inner k n run r) g (suc f) h p =
         let short : Every (λ s. length s < suc f) (row-contents r) = every-imp _ _ (λ s k. omega (arith, length-append run s)) (row-contents r) (every-of-under (λ s. length s < suc f) run (row-contents r) h) in
-        ap (branch (length run) (take 8 run)) (erase-draw-row r (g .1) f short (p ++ run)) ∙ sym (draw-inner f p run r (g .0) (g .1))
+        ap (branch (length run) (take 8 run)) (sketch-draw-row r (g .1) f short (p ++ run)) ∙ sym (draw-inner f p run r (g .0) (g .1))
 
     -- and a row what the groups of its tags by their first byte draw
-    pub erase-draw-row : (r : Row A) → GoodRow r → (f : ℕ) → Every (λ s. length s < suc f) (row-contents r) → (q : Tag)
-        → erase-row q r ≡ kids-of (λ b g. draw-at f (q ++ b ∷ []) g) (groups (row-contents r))
-    erase-draw-row end g f h q = refl
-    erase-draw-row (child b t r) g f h q = rw (groups-child b (contents t) (row-contents r) (filled t (g .0)) (row-above b r (g .1)))
-        (ap₂ (kid b) (erase-draw t (g .0) f (shorter b f (contents t) (every-left _ (under (b ∷ []) (contents t)) (row-contents r) h)) (q ++ b ∷ []))
-        (erase-draw-row r (g .2) f (every-right _ (under (b ∷ []) (contents t)) (row-contents r) h) q))
+    pub sketch-draw-row : (r : Row A) → GoodRow r → (f : ℕ) → Every (λ s. length s < suc f) (row-contents r) → (q : Tag)
+        → sketch-row q r ≡ kids-of (λ b g. draw-at f (q ++ b ∷ []) g) (groups (row-contents r))
+    sketch-draw-row end g f h q = refl
+    sketch-draw-row (child b t r) g f h q = rw (groups-child b (contents t) (row-contents r) (filled t (g .0)) (row-above b r (g .1)))
+        (ap₂ (kid b) (sketch-draw t (g .0) f (shorter b f (contents t) (every-left _ (under (b ∷ []) (contents t)) (row-contents r) h)) (q ++ b ∷ []))
+        (sketch-draw-row r (g .2) f (every-right _ (under (b ∷ []) (contents t)) (row-contents r) h) q))
 
   longest-above : (l : Listing A) (f : ℕ) → longest l < f → Every (λ s. length s < f) l
   longest-above [] f h = tt
   longest-above (e ∷ l) f h = (omega arith, longest-above l f (omega arith))
 
   -- a good tree draws what its tags alone draw
-  pub erase-is-draw : (t : Tree A) → Good t → erase [] t ≡ draw (contents t)
-  erase-is-draw t g = erase-draw t g (suc (longest (contents t))) (longest-above (contents t) (suc (longest (contents t))) (omega arith)) []
+  pub sketch-is-draw : (t : Tree A) → Good t → sketch [] t ≡ draw (contents t)
+  sketch-is-draw t g = sketch-draw t g (suc (longest (contents t))) (longest-above (contents t) (suc (longest (contents t))) (omega arith)) []

@@ -12,13 +12,13 @@ use Rattle.art.specs.Trees.{Tree, leaf, inner, Row, end, child, count}
 use Rattle.art.specs.Changes.{Meet, same, short, long, part, meet}
 use Rattle.art.proofs.Deletes.{false-true}
 use Rattle.art.specs.Deletes.{Home, lost, lost-row, cut-row, graft, settle, re-leaf, prune-child, prune-inner, prune, prune-row}
-use Rattle.art.proofs.Stores.{or-used, or-parts, write-write, write-id, write-last, join-empty, join-write-right, join-apply-left, join-apply-right, clear-append, apply-append, apply-clear, disjoint-left, disjoint-right, disjoint-sym, disjoint-write, disjoint-apply, single-disjoint, own, own-clear, write-used, used-not}
-use Rattle.art.specs.Stores.{Place, leaf-place, inner-place, place-dec, Cell, unused, leaf-cell, inner-cell, Store, Edits, empty, or-cell, join, write, apply, root, refs, cell, store, store-row, Used, Clear, Disjoint, Once, OnceRow}
+use Rattle.art.proofs.Stores.{or-used, or-parts, write-write, write-id, write-last, combined-empty, combined-write-right, combined-apply-left, combined-apply-right, clear-append, apply-append, apply-clear, separate-left, separate-right, separate-sym, separate-write, separate-apply, single-separate, own, own-clear, write-used, used-not}
+use Rattle.art.specs.Stores.{Place, leaf-place, inner-place, place-dec, Cell, unused, leaf-cell, inner-cell, Store, Edits, empty, or-cell, combined, write, apply, root, refs, cell, store, store-row, Used, Clear, Separate, Once, OnceRow}
 use Rattle.art.specs.Drops.{new-home, Roomy, re-edits, spot, settle-edits, drops-child, drops-inner, drops, drops-row, TreeDone, RowDone}
 
 module _ {A : Type 0} where
   -- ── a leaf cut out of a row ──
-  cut-leaf : (f : A → Option A) (t : Tree A) (u p : Tag) (ρ : Store A) → lost f t u ≡ true → Disjoint (store t p) ρ → ρ ≡ write (join (store t p) ρ) (root t) unused
+  cut-leaf : (f : A → Option A) (t : Tree A) (u p : Tag) (ρ : Store A) → lost f t u ≡ true → Separate (store t p) ρ → ρ ≡ write (combined (store t p) ρ) (root t) unused
   cut-leaf f (inner k n run r) u p ρ h d = false-true h
   cut-leaf f (leaf n rest a) u p ρ h d = fun-ext (λ q. go q (place-dec q (leaf-place n)))
     where
@@ -29,7 +29,7 @@ module _ {A : Type 0} where
       go q (yes e) = ap ρ e ∙ own-clear (leaf n rest a) p ρ d
       go q (no m) = refl
 
-  used-right : (σ τ : Store A) (q : Place) → Disjoint σ τ → Used (τ q) → σ q ≡ unused
+  used-right : (σ τ : Store A) (q : Place) → Separate σ τ → Used (τ q) → σ q ≡ unused
   used-right σ τ q d u = go (d q)
     where
       go : (σ q ≡ unused) ⊎ (τ q ≡ unused) → σ q ≡ unused
@@ -50,11 +50,11 @@ module _ {A : Type 0} where
 
       go : (d : Dec (x ≡ c)) → ite {C = Bool} d (lost f t u) (lost-row f r x u) ≡ true
           → (lost-row f r x u ≡ true → (store-row (cut-row x r) q ≡ write τ (spot x r) unused) × Used (τ (spot x r)))
-          → (store-row (ite d r (child c t (cut-row x r))) q ≡ write (join σ τ) (ite d (root t) (spot x r)) unused) × Used (join σ τ (ite d (root t) (spot x r)))
+          → (store-row (ite d r (child c t (cut-row x r))) q ≡ write (combined σ τ) (ite d (root t) (spot x r)) unused) × Used (combined σ τ (ite d (root t) (spot x r)))
       go (yes i) k ih = (cut-leaf f t u (q ++ c ∷ []) τ k (o .1), rw (or-used (σ (root t)) (τ (root t)) (own t (q ++ c ∷ []))) (own t (q ++ c ∷ [])))
       go (no n) k ih =
           let e : σ (spot x r) ≡ unused = used-right σ τ (spot x r) (o .1) (ih k .1) in
-          (ap (join σ) (ih k .0) ∙ join-write-right σ τ (spot x r) unused e, subst (λ (c : Cell A). Used (or-cell c (τ (spot x r)))) (sym e) (ih k .1))
+          (ap (combined σ) (ih k .0) ∙ combined-write-right σ τ (spot x r) unused e, subst (λ (c : Cell A). Used (or-cell c (τ (spot x r)))) (sym e) (ih k .1))
 
   cut-once : (f : A → Option A) (r : Row A) (x : ℕ) (u q : Tag) → lost-row f r x u ≡ true → OnceRow r q → OnceRow (cut-row x r) q
   cut-once f end x u q h o = o
@@ -71,14 +71,14 @@ module _ {A : Type 0} where
       go (no n) k ih =
           let s = cut-store f r x u q k (o .2) in (
             o .0,
-            subst (λ (ρ : Store A). Disjoint σ ρ) (sym (s .0)) (disjoint-sym (write τ (spot x r) unused) σ (disjoint-apply τ σ ((spot x r, unused) ∷ []) (used-right σ τ (spot x r) (o .1) (s .1), tt) (disjoint-sym σ τ (o .1)))),
+            subst (λ (ρ : Store A). Separate σ ρ) (sym (s .0)) (separate-sym (write τ (spot x r) unused) σ (separate-apply τ σ ((spot x r, unused) ∷ []) (used-right σ τ (spot x r) (o .1) (s .1), tt) (separate-sym σ τ (o .1)))),
             ih k,
           )
 
   cut-done : (f : A → Option A) (hm : Home) (r : Row A) (x : ℕ) (u q : Tag) → lost-row f r x u ≡ true → OnceRow r q → RowDone r (cut-row x r) ((spot x r, unused) ∷ []) q hm
   cut-done f hm r x u q h o = record {
     made = (cut-store f r x u q h o) .0;
-    clear = λ τ d m. (used-right τ (store-row r q) (spot x r) (disjoint-sym (store-row r q) τ d) ((cut-store f r x u q h o) .1), tt);
+    clear = λ τ d m. (used-right τ (store-row r q) (spot x r) (separate-sym (store-row r q) τ d) ((cut-store f r x u q h o) .1), tt);
     once = cut-once f r x u q h o;
   }
 
@@ -101,10 +101,10 @@ module _ {A : Type 0} where
   roomy-clear hm τ k n l (inl e) h = ap τ e ∙ h
   roomy-clear hm τ k n l (inr e) h = e
 
-  settle-clear : (hm : Home) (k n : ℕ) (run p : Tag) (r : Row A) (τ : Store A) → τ (inner-place k n) ≡ unused → Roomy hm τ → Disjoint (store-row r (p ++ run)) τ
+  settle-clear : (hm : Home) (k n : ℕ) (run p : Tag) (r : Row A) (τ : Store A) → τ (inner-place k n) ≡ unused → Roomy hm τ → Separate (store-row r (p ++ run)) τ
       → Clear τ (settle-edits hm k n run p r)
   settle-clear hm k n run p end τ o f d = (o, tt)
-  settle-clear hm k n run p (child b t end) τ o f d = (o, (own-clear t (p ++ run ++ b ∷ []) τ (disjoint-left (store t (p ++ run ++ b ∷ [])) empty τ d), tt))
+  settle-clear hm k n run p (child b t end) τ o f d = (o, (own-clear t (p ++ run ++ b ∷ []) τ (separate-left (store t (p ++ run ++ b ∷ [])) empty τ d), tt))
   settle-clear hm k n run p (child b t (child c u r)) τ o f d = (o, (roomy-clear hm τ k n (count (child b t (child c u r))) (f k n (count (child b t (child c u r)))) o, tt))
 
   settle-once : (hm : Home) (k n : ℕ) (run p : Tag) (r : Row A) → store-row r (p ++ run) (inner-place k n) ≡ unused
@@ -133,7 +133,7 @@ module _ {A : Type 0} where
       go end i o = ap (λ (σ : Store A). write σ here (inner-cell (length run) (take 8 run) [])) i ∙ sym (write-last ρ here old (inner-cell (length run) (take 8 run) []) es)
       go (child b t end) i o =
           graft-store p run b t
-          ∙ ap (λ (σ : Store A). write σ (root t) (cell p (graft (run ++ b ∷ []) t))) (sym (join-empty (store t (p ++ run ++ b ∷ []))))
+          ∙ ap (λ (σ : Store A). write σ (root t) (cell p (graft (run ++ b ∷ []) t))) (sym (combined-empty (store t (p ++ run ++ b ∷ []))))
           ∙ sym (given (child b t end) i o ((root t, cell p (graft (run ++ b ∷ []) t)) ∷ []))
       go (child b t (child c u r)) i o =
           let r′ : Row A = child b t (child c u r) in
@@ -188,18 +188,18 @@ module _ {A : Type 0} where
           record {
             made = settle-store hm k n run p old ρ ((spot x r, unused) ∷ []) r′ (c .made) here-free;
             clear = λ τ d m.
-                clear-append τ ((spot x r, unused) ∷ []) (settle-edits hm k n run p r′) (c .clear τ (disjoint-write ρ τ here old (o .0) d) m)
+                clear-append τ ((spot x r, unused) ∷ []) (settle-edits hm k n run p r′) (c .clear τ (separate-write ρ τ here old (o .0) d) m)
                 (settle-clear hm k n run p r′ τ (own-clear (inner k n run r) p τ d) m
-                (subst (λ (σ : Store A). Disjoint σ τ) (sym (c .made)) (disjoint-apply ρ τ ((spot x r, unused) ∷ []) (c .clear τ (disjoint-write ρ τ here old (o .0) d) m) (disjoint-write ρ τ here old (o .0) d))));
+                (subst (λ (σ : Store A). Separate σ τ) (sym (c .made)) (separate-apply ρ τ ((spot x r, unused) ∷ []) (c .clear τ (separate-write ρ τ here old (o .0) d) m) (separate-write ρ τ here old (o .0) d))));
             once = settle-once hm k n run p r′ here-free (λ l. ap (λ (σ : Store A). σ (new-home hm k n l)) (c .made) ∙ write-unused ρ (spot x r) (new-home hm k n l) (home-free l (w k n l))) (c .once);
           }
       go false i =
           let c = ih x u in
           let new : Cell A = inner-cell (length run) (take 8 run) (refs (rec x u)) in
-          let off = c .clear (write empty here old) (disjoint-sym (write empty here old) ρ (single-disjoint ρ here old (o .0))) (roomy-single hm ρ here old w) in
+          let off = c .clear (write empty here old) (separate-sym (write empty here old) ρ (single-separate ρ here old (o .0))) (roomy-single hm ρ here old w) in
           record {
             made = ap (λ (σ : Store A). write σ here new) (c .made) ∙ sym (write-last ρ here old new (es x u));
-            clear = λ τ d m. clear-append τ (es x u) ((here, new) ∷ []) (c .clear τ (disjoint-write ρ τ here old (o .0) d) m) (own-clear (inner k n run r) p τ d, tt);
+            clear = λ τ d m. clear-append τ (es x u) ((here, new) ∷ []) (c .clear τ (separate-write ρ τ here old (o .0) d) m) (own-clear (inner k n run r) p τ d, tt);
             once = (ap (λ (σ : Store A). σ here) (c .made) ∙ apply-clear here old tt (es x u) ρ off ∙ o .0, c .once);
           }
 
@@ -214,18 +214,18 @@ module _ {A : Type 0} where
   leaf-done n rest a q hm p s (no e) = record { made = refl; clear = λ τ d m. tt; once = tt }
 
   -- a home that is free in a join is free in its first part
-  pub roomy-left : (hm : Home) (σ τ : Store A) → Roomy hm (join σ τ) → Roomy hm σ
+  pub roomy-left : (hm : Home) (σ τ : Store A) → Roomy hm (combined σ τ) → Roomy hm σ
   roomy-left hm σ τ f k n l = go (f k n l)
     where
-      go : (new-home hm k n l ≡ inner-place k n) ⊎ (join σ τ (new-home hm k n l) ≡ unused) → (new-home hm k n l ≡ inner-place k n) ⊎ (σ (new-home hm k n l) ≡ unused)
+      go : (new-home hm k n l ≡ inner-place k n) ⊎ (combined σ τ (new-home hm k n l) ≡ unused) → (new-home hm k n l ≡ inner-place k n) ⊎ (σ (new-home hm k n l) ≡ unused)
       go (inl e) = inl e
       go (inr e) = inr ((or-parts (σ (new-home hm k n l)) (τ (new-home hm k n l)) e) .0)
 
   -- and in its second
-  pub roomy-right : (hm : Home) (σ τ : Store A) → Roomy hm (join σ τ) → Roomy hm τ
+  pub roomy-right : (hm : Home) (σ τ : Store A) → Roomy hm (combined σ τ) → Roomy hm τ
   roomy-right hm σ τ f k n l = go (f k n l)
     where
-      go : (new-home hm k n l ≡ inner-place k n) ⊎ (join σ τ (new-home hm k n l) ≡ unused) → (new-home hm k n l ≡ inner-place k n) ⊎ (τ (new-home hm k n l) ≡ unused)
+      go : (new-home hm k n l ≡ inner-place k n) ⊎ (combined σ τ (new-home hm k n l) ≡ unused) → (new-home hm k n l ≡ inner-place k n) ⊎ (τ (new-home hm k n l) ≡ unused)
       go (inl e) = inl e
       go (inr e) = inr ((or-parts (σ (new-home hm k n l)) (τ (new-home hm k n l)) e) .1)
 
@@ -244,18 +244,18 @@ module _ {A : Type 0} where
       let τ : Store A = store-row r q in
       let cl = td .clear τ (o .1) (roomy-right hm σ τ w) in
       record {
-        made = ap (λ (ρ : Store A). join ρ τ) (td .made) ∙ join-apply-left σ τ es cl;
-        clear = λ ρ d m. td .clear ρ (disjoint-left σ τ ρ d) m;
-        once = (td .once, subst (λ (ρ : Store A). Disjoint ρ τ) (sym (td .made)) (disjoint-apply σ τ es cl (o .1)), o .2);
+        made = ap (λ (ρ : Store A). combined ρ τ) (td .made) ∙ combined-apply-left σ τ es cl;
+        clear = λ ρ d m. td .clear ρ (separate-left σ τ ρ d) m;
+        once = (td .once, subst (λ (ρ : Store A). Separate ρ τ) (sym (td .made)) (separate-apply σ τ es cl (o .1)), o .2);
       }
   child-done c t t′ r r′ q hm x es fs (no e) o w td rd =
       let σ : Store A = store t (q ++ c ∷ []) in
       let τ : Store A = store-row r q in
-      let cl = rd .clear σ (disjoint-sym σ τ (o .1)) (roomy-left hm σ τ w) in
+      let cl = rd .clear σ (separate-sym σ τ (o .1)) (roomy-left hm σ τ w) in
       record {
-        made = ap (join σ) (rd .made) ∙ join-apply-right σ τ fs cl;
-        clear = λ ρ d m. rd .clear ρ (disjoint-right σ τ ρ d) m;
-        once = (o .0, subst (λ (ρ : Store A). Disjoint σ ρ) (sym (rd .made)) (disjoint-sym (apply τ fs) σ (disjoint-apply τ σ fs cl (disjoint-sym σ τ (o .1)))), rd .once);
+        made = ap (combined σ) (rd .made) ∙ combined-apply-right σ τ fs cl;
+        clear = λ ρ d m. rd .clear ρ (separate-right σ τ ρ d) m;
+        once = (o .0, subst (λ (ρ : Store A). Separate σ ρ) (sym (rd .made)) (separate-sym (apply τ fs) σ (separate-apply τ σ fs cl (separate-sym σ τ (o .1)))), rd .once);
       }
 
   mutual

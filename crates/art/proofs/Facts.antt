@@ -8,8 +8,8 @@ use lib.ListN.{length, length-append}
 use Rattle.art.specs.Tags.{Tag, Listing}
 use Rattle.art.specs.Listings.{under}
 use Rattle.art.specs.Trees.{Tree, leaf, inner, Row, end, child, contents, row-contents, Good, GoodRow}
-use Rattle.art.proofs.Drawings.{filled, some-filled, many-some, erase-is-draw}
-use Rattle.art.specs.Drawings.{Filled, Some, longest, erase, erase-row, draw}
+use Rattle.art.proofs.Drawings.{filled, some-filled, many-some, sketch-is-draw}
+use Rattle.art.specs.Drawings.{Filled, Some, longest, sketch, sketch-row, draw}
 use Rattle.art.proofs.Changes.{grow-contents, grow-good}
 use Rattle.art.specs.Changes.{Plan}
 use Rattle.art.proofs.Deletes.{change-held, change-sane}
@@ -47,18 +47,18 @@ module _ {A : Type 0} where
 
   mutual
     -- a tree has as many inner records as it draws branchings
-    pub forks-drawn : (t : Tree A) (p : Tag) → forks t ≡ branchings (erase p t)
+    pub forks-drawn : (t : Tree A) (p : Tag) → forks t ≡ branchings (sketch p t)
     forks-drawn (leaf n s a) p = refl
     forks-drawn (inner k n run r) p = ap suc (row-forks-drawn r (p ++ run))
 
     -- and so has a row
-    pub row-forks-drawn : (r : Row A) (q : Tag) → row-forks r ≡ kids-branchings (erase-row q r)
+    pub row-forks-drawn : (r : Row A) (q : Tag) → row-forks r ≡ kids-branchings (sketch-row q r)
     row-forks-drawn end q = refl
     row-forks-drawn (child b t r) q = ap₂ _+_ (forks-drawn t (q ++ b ∷ [])) (row-forks-drawn r q)
 
   -- the tags alone say how many inner records are used
   pub used-inner : (t : Tree A) → Good t → forks t ≡ branchings (draw (contents t))
-  used-inner t g = forks-drawn t [] ∙ ap branchings (erase-is-draw t g)
+  used-inner t g = forks-drawn t [] ∙ ap branchings (sketch-is-draw t g)
 
   first-leaf-held : (s : Tag) (a : A) (room : Option Plan) → (Sane (first-leaf s a room)) × (held (first-leaf s a room) ≡ put-room s a room [])
   first-leaf-held s a none = (tt, refl)
@@ -88,7 +88,7 @@ module _ {A : Type 0} where
 
   drawn-is-draw : (o : Option (Tree A)) → Sane o → drawn o ≡ draw (held o)
   drawn-is-draw none g = refl
-  drawn-is-draw (some t) g = erase-is-draw t g
+  drawn-is-draw (some t) g = sketch-is-draw t g
 
   -- any history from the empty directory draws what the accepted changes define
   pub history : (cs : List (Call A)) → drawn (run-all none cs) ≡ draw (run-listing [] cs)

@@ -16,7 +16,7 @@ use Rattle.art.specs.Walks.{Shows, ShowsRow}
 use Rattle.art.specs.Drops.{Roomy, spot, settle-edits, drops, drops-row, drops-child, drops-inner}
 use Rattle.art.specs.Refs.{re-ref, relink}
 use Rattle.art.specs.Lean.{lean-up, lean-child, lean-inner, lean, lean-row, lean-settle, lean-drops-child, lean-drops-inner, lean-drops, lean-drops-row}
-use Rattle.art.proofs.Stores.{leaf-inner, or-unused, write-same, write-other, write-id, used-not, apply-append, apply-clear, edits-row-clear, disjoint-sym, single-disjoint, fresh-single, fresh-under, fresh-left, fresh-right, store-grow}
+use Rattle.art.proofs.Stores.{leaf-inner, or-unused, write-same, write-other, write-id, used-not, apply-append, apply-clear, edits-row-clear, separate-sym, single-separate, fresh-single, fresh-under, fresh-left, fresh-right, store-grow}
 use Rattle.art.proofs.Walks.{store-shows}
 use Rattle.art.proofs.Drops.{cut-store, roomy-single, roomy-under, roomy-left, roomy-right, drops-done, drops-row-done}
 use Rattle.art.proofs.Refs.{grow-refs, prune-refs, relink-same}
@@ -59,7 +59,7 @@ module _ {A : Type 0} where
         same-inner σ pl p s a k n run r (meet s run) (λ x u. grow-row r pl x u a) (λ x u. lean-row r pl (p ++ run) x u a) (λ x u. edits-row r pl (p ++ run) x u a)
         (λ x u. lean-row-same r pl (p ++ run) x u a (o .1) (fresh-under pl ρ here old tt f) σ (h .1))
         (λ x u. apply-clear here old tt (edits-row r pl (p ++ run) x u a) σ
-        (edits-row-clear r pl (p ++ run) x u a (write empty here old) (o .1) (disjoint-sym (write empty here old) ρ (single-disjoint ρ here old (o .0))) (fresh-single pl ρ here old f)) ∙ h .0)
+        (edits-row-clear r pl (p ++ run) x u a (write empty here old) (o .1) (separate-sym (write empty here old) ρ (single-separate ρ here old (o .0))) (fresh-single pl ρ here old f)) ∙ h .0)
         (λ x u. grow-refs r pl x u a)
 
     -- and so for a row
@@ -133,7 +133,7 @@ module _ {A : Type 0} where
         same-drops-inner σ f hm p s k n run r (meet s run) (λ x u. prune-row r f hm x u) (λ x u. lean-drops-row r f hm (p ++ run) x u) (λ x u. drops-row r f hm (p ++ run) x u)
         (λ x u. lean-drops-row-same r f hm (p ++ run) x u (o .1) (roomy-under hm ρ here old tt w) σ (h .1))
         (λ x u. apply-clear here old tt (drops-row r f hm (p ++ run) x u) σ
-        ((drops-row-done r f hm (p ++ run) x u (o .1) (roomy-under hm ρ here old tt w)) .clear (write empty here old) (disjoint-sym (write empty here old) ρ (single-disjoint ρ here old (o .0))) (roomy-single hm ρ here old w)) ∙ h .0)
+        ((drops-row-done r f hm (p ++ run) x u (o .1) (roomy-under hm ρ here old tt w)) .clear (write empty here old) (separate-sym (write empty here old) ρ (single-separate ρ here old (o .0))) (roomy-single hm ρ here old w)) ∙ h .0)
         (λ x u. prune-refs r f hm x u) (o .1) (h .1)
 
     -- and so for a row

@@ -10,13 +10,13 @@ use lib.ListN.{length, length-append}
 use Rattle.art.specs.Tags.{Tag, Listing}
 use Rattle.art.specs.Listings.{under}
 use Rattle.art.specs.Trees.{Tree, leaf, inner, Row, end, child, contents, row-contents}
-use Rattle.art.specs.Stores.{Place, leaf-place, inner-place, place-dec, Cell, unused, leaf-cell, inner-cell, Store, store, store-row, Used, Once, OnceRow, Disjoint, or-cell, write, empty}
+use Rattle.art.specs.Stores.{Place, leaf-place, inner-place, place-dec, Cell, unused, leaf-cell, inner-cell, Store, store, store-row, Used, Once, OnceRow, Separate, or-cell, write, empty}
 use Rattle.art.proofs.Stores.{write-other, used-not}
 use Rattle.art.specs.Members.{In, in-dec}
 use Rattle.art.proofs.Members.{in-left, in-right, in-append}
 use Rattle.art.specs.Chain.{leaf-ref, end-of, leaves, row-leaves}
 use Rattle.art.proofs.Chains.{end-append}
-use Rattle.art.specs.Visit.{and-then, when, State, marked, listed, mark, spots, row-spots, passed, passed-row, enlist, InTurn, pass, pass-row, Passes, PassesRow}
+use Rattle.art.specs.Visit.{and-then, provided, State, marked, listed, mark, spots, row-spots, passed, passed-row, enlist, InTurn, pass, pass-row, Passes, PassesRow}
 
 mark-new : (x : Place) (z : State) → ¬ In x (z .seen) → mark x z ≡ some (marked x z)
 mark-new x z n = if-neg (in-dec place-dec x (z .seen)) n none (some (marked x z))
@@ -198,7 +198,7 @@ module _ (link : ℕ → ℕ → Bool) where
   passes-leaf n z z′ (yes h) q = absurd (let w : _≡_ {A = ℕ} 0 1 = cc in omega arith)
   passes-leaf n z z′ (no h) q = go (link (z .prev) n) refl q
     where
-      go : (b : Bool) → link (z .prev) n ≡ b → when b (listed n (marked (leaf-place n) z)) ≡ some z′
+      go : (b : Bool) → link (z .prev) n ≡ b → provided b (listed n (marked (leaf-place n) z)) ≡ some z′
           → ((¬ In (leaf-place n) (z .seen)) × (link (z .prev) n ≡ true)) × (listed n (marked (leaf-place n) z) ≡ z′)
       go true e q = ((h, e), cc)
       go false e q = absurd (let w : _≡_ {A = ℕ} 0 1 = cc in omega arith)
@@ -208,7 +208,7 @@ module _ (link : ℕ → ℕ → Bool) where
       -- where each place is new and each leaf follows, the way through a tree ends well
       pub passes-pass : (t : Tree A) (z : State) → Passes link t z → pass link t z ≡ some (passed t z)
       passes-pass (leaf n s a) z h =
-          ap (λ (o : Option State). and-then o (λ y. enlist link n y)) (mark-new (leaf-place n) z (h .0)) ∙ ap (λ (b : Bool). when b (listed n (marked (leaf-place n) z))) (h .1)
+          ap (λ (o : Option State). and-then o (λ y. enlist link n y)) (mark-new (leaf-place n) z (h .0)) ∙ ap (λ (b : Bool). provided b (listed n (marked (leaf-place n) z))) (h .1)
       passes-pass (inner k n run r) z h =
           ap (λ (o : Option State). and-then o (λ y. pass-row link r y)) (mark-new (inner-place k n) z (h .0)) ∙ row-passes-pass r (marked (inner-place k n) z) (h .1)
 
@@ -293,7 +293,7 @@ module _ (link : ℕ → ℕ → Bool) where
           turn-append (z .prev) (leaves t) (row-leaves r) (passes-turn t z (h .0)) (subst (λ (k : ℕ). InTurn link k (row-leaves r)) (prev-passed t z) (row-passes-turn r (passed t z) (h .1)))
 
     -- and the other way round
-    fresh-passed : (t : Tree A) (r : Row A) (p q : Tag) (z : State) (x : Place) → Disjoint (store t p) (store-row r q) → (In x (row-spots r) → ¬ In x (z .seen))
+    fresh-passed : (t : Tree A) (r : Row A) (p q : Tag) (z : State) (x : Place) → Separate (store t p) (store-row r q) → (In x (row-spots r) → ¬ In x (z .seen))
         → In x (row-spots r) → In x (spots t) ⊎ In x (z .seen) → ⊥
     fresh-passed t r p q z x d f j (inr i) = f j i
     fresh-passed t r p q z x d f j (inl i) = go (d x)

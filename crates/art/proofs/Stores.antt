@@ -9,7 +9,7 @@ use lib.ListN.{length, take}
 use Rattle.art.specs.Tags.{Tag, Order, order, below, equal, above}
 use Rattle.art.specs.Trees.{Tree, leaf, inner, Row, end, child}
 use Rattle.art.specs.Changes.{Plan, Meet, same, short, long, part, meet, Has, has, pair, pair-by, add-child, add-by, grow, grow-row, grow-leaf, grow-inner, grow-child}
-use Rattle.art.specs.Stores.{Place, leaf-place, inner-place, place-dec, home-place, Cell, unused, leaf-cell, inner-cell, Store, Edits, empty, or-cell, join, write, apply, root, refs, store, store-row, Used, Clear, Disjoint, Once, OnceRow, Fresh, edits-leaf, edits-child, edits-inner, edits, edits-row}
+use Rattle.art.specs.Stores.{Place, leaf-place, inner-place, place-dec, home-place, Cell, unused, leaf-cell, inner-cell, Store, Edits, empty, or-cell, combined, write, apply, root, refs, store, store-row, Used, Clear, Separate, Once, OnceRow, Fresh, edits-leaf, edits-child, edits-inner, edits, edits-row}
 
 -- a leaf and an inner record have different places
 pub leaf-inner : (n k m : ℕ) → leaf-place n ≢ inner-place k m
@@ -48,8 +48,8 @@ module _ {A : Type 0} where
       go q (no n) = refl
 
   -- a write to one part of a join is a write to the join
-  pub join-write-left : (σ τ : Store A) (x : Place) (c : Cell A) → (Used c ⊎ (τ x ≡ unused)) → join (write σ x c) τ ≡ write (join σ τ) x c
-  join-write-left σ τ x c h = fun-ext (λ q. go q (place-dec q x) h)
+  pub combined-write-left : (σ τ : Store A) (x : Place) (c : Cell A) → (Used c ⊎ (τ x ≡ unused)) → combined (write σ x c) τ ≡ write (combined σ τ) x c
+  combined-write-left σ τ x c h = fun-ext (λ q. go q (place-dec q x) h)
     where
       go : (q : Place) (b : Dec (q ≡ x)) → (Used c ⊎ (τ x ≡ unused)) → or-cell (ite {C = Cell A} b c (σ q)) (τ q) ≡ ite {C = Cell A} b c (or-cell (σ q) (τ q))
       go q (yes e) (inl u) = or-used c (τ q) u
@@ -57,26 +57,26 @@ module _ {A : Type 0} where
       go q (no n) k = refl
 
   -- and so for the other part, where the first has nothing at the place
-  pub join-write-right : (σ τ : Store A) (x : Place) (c : Cell A) → σ x ≡ unused → join σ (write τ x c) ≡ write (join σ τ) x c
-  join-write-right σ τ x c h = fun-ext (λ q. go q (place-dec q x))
+  pub combined-write-right : (σ τ : Store A) (x : Place) (c : Cell A) → σ x ≡ unused → combined σ (write τ x c) ≡ write (combined σ τ) x c
+  combined-write-right σ τ x c h = fun-ext (λ q. go q (place-dec q x))
     where
       go : (q : Place) (b : Dec (q ≡ x)) → or-cell (σ q) (ite {C = Cell A} b c (τ q)) ≡ ite {C = Cell A} b c (or-cell (σ q) (τ q))
       go q (yes e) = ap (λ (d : Cell A). or-cell d c) (ap σ e ∙ h)
       go q (no n) = refl
 
   -- the empty store adds nothing
-  pub join-empty : (σ : Store A) → join σ empty ≡ σ
-  join-empty σ = fun-ext (λ q. or-unused (σ q))
+  pub combined-empty : (σ : Store A) → combined σ empty ≡ σ
+  combined-empty σ = fun-ext (λ q. or-unused (σ q))
 
   -- writes to one part of a join, free in the other, are writes to the join
-  pub join-apply-left : (σ τ : Store A) (es : Edits A) → Clear τ es → join (apply σ es) τ ≡ apply (join σ τ) es
-  join-apply-left σ τ [] h = refl
-  join-apply-left σ τ (e ∷ es) h = join-apply-left (write σ (e .0) (e .1)) τ es (h .1) ∙ ap (λ (ρ : Store A). apply ρ es) (join-write-left σ τ (e .0) (e .1) (inr (h .0)))
+  pub combined-apply-left : (σ τ : Store A) (es : Edits A) → Clear τ es → combined (apply σ es) τ ≡ apply (combined σ τ) es
+  combined-apply-left σ τ [] h = refl
+  combined-apply-left σ τ (e ∷ es) h = combined-apply-left (write σ (e .0) (e .1)) τ es (h .1) ∙ ap (λ (ρ : Store A). apply ρ es) (combined-write-left σ τ (e .0) (e .1) (inr (h .0)))
 
   -- and so for the other part
-  pub join-apply-right : (σ τ : Store A) (es : Edits A) → Clear σ es → join σ (apply τ es) ≡ apply (join σ τ) es
-  join-apply-right σ τ [] h = refl
-  join-apply-right σ τ (e ∷ es) h = join-apply-right σ (write τ (e .0) (e .1)) es (h .1) ∙ ap (λ (ρ : Store A). apply ρ es) (join-write-right σ τ (e .0) (e .1) (h .0))
+  pub combined-apply-right : (σ τ : Store A) (es : Edits A) → Clear σ es → combined σ (apply τ es) ≡ apply (combined σ τ) es
+  combined-apply-right σ τ [] h = refl
+  combined-apply-right σ τ (e ∷ es) h = combined-apply-right σ (write τ (e .0) (e .1)) es (h .1) ∙ ap (λ (ρ : Store A). apply ρ es) (combined-write-right σ τ (e .0) (e .1) (h .0))
 
   -- writes to two places go in either order
   pub write-comm : (σ : Store A) (x y : Place) (c d : Cell A) → y ≢ x → write (write σ x c) y d ≡ write (write σ y d) x c
@@ -125,14 +125,14 @@ module _ {A : Type 0} where
       c = leaf-cell (q ++ x ∷ [] ++ u) a
 
       go : (o : Order x y) → store-row (pair-by x y o (leaf n u a) t) q ≡ write σ (leaf-place n) c
-      go (below k) = ap (join (write empty (leaf-place n) c)) (join-empty σ) ∙ join-write-left empty σ (leaf-place n) c (inl tt)
+      go (below k) = ap (combined (write empty (leaf-place n) c)) (combined-empty σ) ∙ combined-write-left empty σ (leaf-place n) c (inl tt)
       go (equal e) = absurd (ne e)
-      go (above k) = ap (join σ) (join-empty (write empty (leaf-place n) c)) ∙ join-write-right σ empty (leaf-place n) c h ∙ ap (λ (ρ : Store A). write ρ (leaf-place n) c) (join-empty σ)
+      go (above k) = ap (combined σ) (combined-empty (write empty (leaf-place n) c)) ∙ combined-write-right σ empty (leaf-place n) c h ∙ ap (λ (ρ : Store A). write ρ (leaf-place n) c) (combined-empty σ)
 
   -- a row with a new leaf is the row's store with the leaf written
   pub store-add : (b n : ℕ) (u : Tag) (a : A) (r : Row A) (q : Tag) → ¬ Has b r → store-row r q (leaf-place n) ≡ unused
       → store-row (add-child b (leaf n u a) r) q ≡ write (store-row r q) (leaf-place n) (leaf-cell (q ++ b ∷ [] ++ u) a)
-  store-add b n u a end q nh h = join-empty (write empty (leaf-place n) (leaf-cell (q ++ b ∷ [] ++ u) a))
+  store-add b n u a end q nh h = combined-empty (write empty (leaf-place n) (leaf-cell (q ++ b ∷ [] ++ u) a))
   store-add b n u a (child c t r) q nh h = go (order b c) (store-add b n u a r q (λ k. nh (inr k)) ((or-parts (store t (q ++ c ∷ []) (leaf-place n)) (store-row r q (leaf-place n)) h) .1))
     where
       d : Cell A
@@ -140,9 +140,9 @@ module _ {A : Type 0} where
 
       go : (o : Order b c) → store-row (add-child b (leaf n u a) r) q ≡ write (store-row r q) (leaf-place n) d
           → store-row (add-by b c o (leaf n u a) t r (add-child b (leaf n u a) r)) q ≡ write (store-row (child c t r) q) (leaf-place n) d
-      go (below k) ih = join-write-left empty (store-row (child c t r) q) (leaf-place n) d (inl tt)
+      go (below k) ih = combined-write-left empty (store-row (child c t r) q) (leaf-place n) d (inl tt)
       go (equal e) ih = absurd (nh (inl e))
-      go (above k) ih = ap (join (store t (q ++ c ∷ []))) ih ∙ join-write-right (store t (q ++ c ∷ [])) (store-row r q) (leaf-place n) d ((or-parts (store t (q ++ c ∷ []) (leaf-place n)) (store-row r q (leaf-place n)) h) .0)
+      go (above k) ih = ap (combined (store t (q ++ c ∷ []))) ih ∙ combined-write-right (store t (q ++ c ∷ [])) (store-row r q) (leaf-place n) d ((or-parts (store t (q ++ c ∷ []) (leaf-place n)) (store-row r q (leaf-place n)) h) .0)
 
   -- writing what is there changes nothing
   pub write-id : (σ : Store A) (x : Place) (c : Cell A) → σ x ≡ c → write σ x c ≡ σ
@@ -159,7 +159,7 @@ module _ {A : Type 0} where
   own (inner k n run r) p = rw (write-same (store-row r (p ++ run)) (inner-place k n) (inner-cell (length run) (take 8 run) (refs r))) tt
 
   -- and free in every store that shares no place with it
-  pub own-clear : (t : Tree A) (p : Tag) (τ : Store A) → Disjoint (store t p) τ → τ (root t) ≡ unused
+  pub own-clear : (t : Tree A) (p : Tag) (τ : Store A) → Separate (store t p) τ → τ (root t) ≡ unused
   own-clear t p τ d = go (own t p) (d (root t))
     where
       go : Used (store t p (root t)) → (store t p (root t) ≡ unused) ⊎ (τ (root t) ≡ unused) → τ (root t) ≡ unused
@@ -197,32 +197,32 @@ module _ {A : Type 0} where
   edits-inner-clear pl p s a k n run r (part c x u y v i j ne) rec es τ o f ih = (o, (f .0, (f .1, tt)))
 
   -- what shares no place with a join shares none with its first part
-  pub disjoint-left : (σ ρ τ : Store A) → Disjoint (join σ ρ) τ → Disjoint σ τ
-  disjoint-left σ ρ τ d q = go (d q)
+  pub separate-left : (σ ρ τ : Store A) → Separate (combined σ ρ) τ → Separate σ τ
+  separate-left σ ρ τ d q = go (d q)
     where
-      go : (join σ ρ q ≡ unused) ⊎ (τ q ≡ unused) → (σ q ≡ unused) ⊎ (τ q ≡ unused)
+      go : (combined σ ρ q ≡ unused) ⊎ (τ q ≡ unused) → (σ q ≡ unused) ⊎ (τ q ≡ unused)
       go (inl e) = inl ((or-parts (σ q) (ρ q) e) .0)
       go (inr e) = inr e
 
   -- nor with its second
-  pub disjoint-right : (σ ρ τ : Store A) → Disjoint (join σ ρ) τ → Disjoint ρ τ
-  disjoint-right σ ρ τ d q = go (d q)
+  pub separate-right : (σ ρ τ : Store A) → Separate (combined σ ρ) τ → Separate ρ τ
+  separate-right σ ρ τ d q = go (d q)
     where
-      go : (join σ ρ q ≡ unused) ⊎ (τ q ≡ unused) → (ρ q ≡ unused) ⊎ (τ q ≡ unused)
+      go : (combined σ ρ q ≡ unused) ⊎ (τ q ≡ unused) → (ρ q ≡ unused) ⊎ (τ q ≡ unused)
       go (inl e) = inl ((or-parts (σ q) (ρ q) e) .1)
       go (inr e) = inr e
 
   -- nor with the store before a write to an unused place
-  pub disjoint-write : (σ τ : Store A) (x : Place) (c : Cell A) → σ x ≡ unused → Disjoint (write σ x c) τ → Disjoint σ τ
-  disjoint-write σ τ x c h d q = go (place-dec q x) (d q)
+  pub separate-write : (σ τ : Store A) (x : Place) (c : Cell A) → σ x ≡ unused → Separate (write σ x c) τ → Separate σ τ
+  separate-write σ τ x c h d q = go (place-dec q x) (d q)
     where
       go : (b : Dec (q ≡ x)) → (ite {C = Cell A} b c (σ q) ≡ unused) ⊎ (τ q ≡ unused) → (σ q ≡ unused) ⊎ (τ q ≡ unused)
       go (yes e) k = inl (ap σ e ∙ h)
       go (no n) k = k
 
   -- two stores share no place either way round
-  pub disjoint-sym : (σ τ : Store A) → Disjoint σ τ → Disjoint τ σ
-  disjoint-sym σ τ d q = go (d q)
+  pub separate-sym : (σ τ : Store A) → Separate σ τ → Separate τ σ
+  separate-sym σ τ d q = go (d q)
     where
       go : (σ q ≡ unused) ⊎ (τ q ≡ unused) → (τ q ≡ unused) ⊎ (σ q ≡ unused)
       go (inl e) = inr e
@@ -235,19 +235,19 @@ module _ {A : Type 0} where
 
   mutual
     -- the writes of an insert are free in every store that shares no place with the tree and has the fresh places free
-    pub edits-clear : (t : Tree A) (pl : Plan) (p s : Tag) (a : A) (τ : Store A) → Once t p → Disjoint (store t p) τ → Fresh pl τ → Clear τ (edits t pl p s a)
+    pub edits-clear : (t : Tree A) (pl : Plan) (p s : Tag) (a : A) (τ : Store A) → Once t p → Separate (store t p) τ → Fresh pl τ → Clear τ (edits t pl p s a)
     edits-clear (leaf n rest v) pl p s a τ o d f = edits-leaf-clear pl p s a n rest v (meet s rest) τ f
     edits-clear (inner k n run r) pl p s a τ o d f =
         edits-inner-clear pl p s a k n run r (meet s run) (λ x u. grow-row r pl x u a) (λ x u. edits-row r pl (p ++ run) x u a) τ (own-clear (inner k n run r) p τ d) f
-        (λ x u. edits-row-clear r pl (p ++ run) x u a τ (o .1) (disjoint-write (store-row r (p ++ run)) τ (inner-place k n) (inner-cell (length run) (take 8 run) (refs r)) (o .0) d) f)
+        (λ x u. edits-row-clear r pl (p ++ run) x u a τ (o .1) (separate-write (store-row r (p ++ run)) τ (inner-place k n) (inner-cell (length run) (take 8 run) (refs r)) (o .0) d) f)
 
     -- and so for a row
-    pub edits-row-clear : (r : Row A) (pl : Plan) (q : Tag) (x : ℕ) (u : Tag) (a : A) (τ : Store A) → OnceRow r q → Disjoint (store-row r q) τ → Fresh pl τ → Clear τ (edits-row r pl q x u a)
+    pub edits-row-clear : (r : Row A) (pl : Plan) (q : Tag) (x : ℕ) (u : Tag) (a : A) (τ : Store A) → OnceRow r q → Separate (store-row r q) τ → Fresh pl τ → Clear τ (edits-row r pl q x u a)
     edits-row-clear end pl q x u a τ o d f = tt
     edits-row-clear (child c t r) pl q x u a τ o d f =
         pick-clear τ (ℕ-discrete x c) (edits t pl (q ++ c ∷ []) u a) (edits-row r pl q x u a)
-        (edits-clear t pl (q ++ c ∷ []) u a τ (o .0) (disjoint-left (store t (q ++ c ∷ [])) (store-row r q) τ d) f)
-        (edits-row-clear r pl q x u a τ (o .2) (disjoint-right (store t (q ++ c ∷ [])) (store-row r q) τ d) f)
+        (edits-clear t pl (q ++ c ∷ []) u a τ (o .0) (separate-left (store t (q ++ c ∷ [])) (store-row r q) τ d) f)
+        (edits-row-clear r pl q x u a τ (o .2) (separate-right (store t (q ++ c ∷ [])) (store-row r q) τ d) f)
 
   -- ── the writes make the store of the grown tree ──
   -- an insert at a leaf makes the store of the grown leaf
@@ -313,7 +313,7 @@ module _ {A : Type 0} where
       ap (λ (σ : Store A). write σ (inner-place (pl .fork-kind) (pl .fork-number)) (inner-cell (length c) (take 8 c) (refs (pair x (leaf (pl .leaf-number) u a) y (inner k n v r))))) both
 
   -- places that are fresh in a join are fresh in its first part
-  pub fresh-left : (pl : Plan) (σ τ : Store A) → Fresh pl (join σ τ) → Fresh pl σ
+  pub fresh-left : (pl : Plan) (σ τ : Store A) → Fresh pl (combined σ τ) → Fresh pl σ
   fresh-left pl σ τ f = ((or-parts (σ N) (τ N) (f .0)) .0, (or-parts (σ F) (τ F) (f .1)) .0, λ k n. go k n (f .2 k n))
     where
       N : Place
@@ -322,12 +322,12 @@ module _ {A : Type 0} where
       F : Place
       F = inner-place (pl .fork-kind) (pl .fork-number)
 
-      go : (k n : ℕ) → (home-place pl k n ≡ inner-place k n) ⊎ (join σ τ (home-place pl k n) ≡ unused) → (home-place pl k n ≡ inner-place k n) ⊎ (σ (home-place pl k n) ≡ unused)
+      go : (k n : ℕ) → (home-place pl k n ≡ inner-place k n) ⊎ (combined σ τ (home-place pl k n) ≡ unused) → (home-place pl k n ≡ inner-place k n) ⊎ (σ (home-place pl k n) ≡ unused)
       go k n (inl e) = inl e
       go k n (inr e) = inr ((or-parts (σ (home-place pl k n)) (τ (home-place pl k n)) e) .0)
 
   -- and in its second
-  pub fresh-right : (pl : Plan) (σ τ : Store A) → Fresh pl (join σ τ) → Fresh pl τ
+  pub fresh-right : (pl : Plan) (σ τ : Store A) → Fresh pl (combined σ τ) → Fresh pl τ
   fresh-right pl σ τ f = ((or-parts (σ N) (τ N) (f .0)) .1, (or-parts (σ F) (τ F) (f .1)) .1, λ k n. go k n (f .2 k n))
     where
       N : Place
@@ -336,7 +336,7 @@ module _ {A : Type 0} where
       F : Place
       F = inner-place (pl .fork-kind) (pl .fork-number)
 
-      go : (k n : ℕ) → (home-place pl k n ≡ inner-place k n) ⊎ (join σ τ (home-place pl k n) ≡ unused) → (home-place pl k n ≡ inner-place k n) ⊎ (τ (home-place pl k n) ≡ unused)
+      go : (k n : ℕ) → (home-place pl k n ≡ inner-place k n) ⊎ (combined σ τ (home-place pl k n) ≡ unused) → (home-place pl k n ≡ inner-place k n) ⊎ (τ (home-place pl k n) ≡ unused)
       go k n (inl e) = inl e
       go k n (inr e) = inr ((or-parts (σ (home-place pl k n)) (τ (home-place pl k n)) e) .1)
 
@@ -364,8 +364,8 @@ module _ {A : Type 0} where
   store-grow-child c t t′ r r′ q x es fs ce cf iht ihr = go (ℕ-discrete x c)
     where
       go : (d : Dec (x ≡ c)) → store-row (ite d (child c t′ r) (child c t r′)) q ≡ apply (store-row (child c t r) q) (ite d es fs)
-      go (yes e) = ap (λ (σ : Store A). join σ (store-row r q)) iht ∙ join-apply-left (store t (q ++ c ∷ [])) (store-row r q) es ce
-      go (no n) = ap (join (store t (q ++ c ∷ []))) ihr ∙ join-apply-right (store t (q ++ c ∷ [])) (store-row r q) fs cf
+      go (yes e) = ap (λ (σ : Store A). combined σ (store-row r q)) iht ∙ combined-apply-left (store t (q ++ c ∷ [])) (store-row r q) es ce
+      go (no n) = ap (combined (store t (q ++ c ∷ []))) ihr ∙ combined-apply-right (store t (q ++ c ∷ [])) (store-row r q) fs cf
 
   mutual
     -- the writes of an insert make the store of the grown tree
@@ -384,23 +384,23 @@ module _ {A : Type 0} where
         let τ : Store A = store-row r q in
         store-grow-child c t (grow t pl u a) r (grow-row r pl x u a) q x (edits t pl (q ++ c ∷ []) u a) (edits-row r pl q x u a)
         (edits-clear t pl (q ++ c ∷ []) u a τ (o .0) (o .1) (fresh-right pl σ τ f))
-        (edits-row-clear r pl q x u a σ (o .2) (disjoint-sym σ τ (o .1)) (fresh-left pl σ τ f))
+        (edits-row-clear r pl q x u a σ (o .2) (separate-sym σ τ (o .1)) (fresh-left pl σ τ f))
         (store-grow t pl (q ++ c ∷ []) u a (o .0) (fresh-left pl σ τ f))
         (store-grow-row r pl q x u a (o .2) (fresh-right pl σ τ f))
 
   -- ── and no place stands twice in it ──
   -- a store that shares no place with another shares none after writes to places that are free in the other
-  pub disjoint-apply : (σ τ : Store A) (es : Edits A) → Clear τ es → Disjoint σ τ → Disjoint (apply σ es) τ
-  disjoint-apply σ τ [] h d = d
-  disjoint-apply σ τ (e ∷ es) h d = disjoint-apply (write σ (e .0) (e .1)) τ es (h .1) (λ q. go q (place-dec q (e .0)))
+  pub separate-apply : (σ τ : Store A) (es : Edits A) → Clear τ es → Separate σ τ → Separate (apply σ es) τ
+  separate-apply σ τ [] h d = d
+  separate-apply σ τ (e ∷ es) h d = separate-apply (write σ (e .0) (e .1)) τ es (h .1) (λ q. go q (place-dec q (e .0)))
     where
       go : (q : Place) (b : Dec (q ≡ e .0)) → (ite {C = Cell A} b (e .1) (σ q) ≡ unused) ⊎ (τ q ≡ unused)
       go q (yes i) = inr (ap τ i ∙ h .0)
       go q (no n) = d q
 
   -- one written place shares nothing with a store that has it free
-  pub single-disjoint : (σ : Store A) (x : Place) (c : Cell A) → σ x ≡ unused → Disjoint (write empty x c) σ
-  single-disjoint σ x c h = disjoint-apply empty σ ((x, c) ∷ []) (h, tt) (λ q. inl refl)
+  pub single-separate : (σ : Store A) (x : Place) (c : Cell A) → σ x ≡ unused → Separate (write empty x c) σ
+  single-separate σ x c h = separate-apply empty σ ((x, c) ∷ []) (h, tt) (λ q. inl refl)
 
   -- a row of a new leaf and a tree has no place twice
   pub once-pair : (x n : ℕ) (u : Tag) (a : A) (y : ℕ) (t : Tree A) (q : Tag) → x ≢ y → Once t (q ++ y ∷ []) → store t (q ++ y ∷ []) (leaf-place n) ≡ unused
@@ -414,9 +414,9 @@ module _ {A : Type 0} where
       c = leaf-cell (q ++ x ∷ [] ++ u) a
 
       go : (k : Order x y) → OnceRow (pair-by x y k (leaf n u a) t) q
-      go (below k) = (tt, single-disjoint (join σ empty) (leaf-place n) c (or-unused (σ (leaf-place n)) ∙ h), (o, (λ p. inr refl), tt))
+      go (below k) = (tt, single-separate (combined σ empty) (leaf-place n) c (or-unused (σ (leaf-place n)) ∙ h), (o, (λ p. inr refl), tt))
       go (equal e) = absurd (ne e)
-      go (above k) = (o, subst (λ (τ : Store A). Disjoint σ τ) (sym (join-empty (write empty (leaf-place n) c))) (disjoint-sym (write empty (leaf-place n) c) σ (single-disjoint σ (leaf-place n) c h)), (tt, (λ p. inr refl), tt))
+      go (above k) = (o, subst (λ (τ : Store A). Separate σ τ) (sym (combined-empty (write empty (leaf-place n) c))) (separate-sym (write empty (leaf-place n) c) σ (single-separate σ (leaf-place n) c h)), (tt, (λ p. inr refl), tt))
 
   -- nor has a row with a new leaf
   pub once-add : (b n : ℕ) (u : Tag) (a : A) (r : Row A) (q : Tag) → ¬ Has b r → OnceRow r q → store-row r q (leaf-place n) ≡ unused → OnceRow (add-child b (leaf n u a) r) q
@@ -433,11 +433,11 @@ module _ {A : Type 0} where
       d = leaf-cell (q ++ b ∷ [] ++ u) a
 
       go : (k : Order b c) → OnceRow (add-child b (leaf n u a) r) q → OnceRow (add-by b c k (leaf n u a) t r (add-child b (leaf n u a) r)) q
-      go (below k) ih = (tt, single-disjoint (store-row (child c t r) q) (leaf-place n) d h, o)
+      go (below k) ih = (tt, single-separate (store-row (child c t r) q) (leaf-place n) d h, o)
       go (equal e) ih = o
       go (above k) ih = (
         o .0,
-        rw (store-add b n u a r q (λ k. nh (inr k)) (parts .1)) (disjoint-sym (write (store-row r q) (leaf-place n) d) σ (disjoint-apply (store-row r q) σ ((leaf-place n, d) ∷ []) (parts .0, tt) (disjoint-sym σ (store-row r q) (o .1)))),
+        rw (store-add b n u a r q (λ k. nh (inr k)) (parts .1)) (separate-sym (write (store-row r q) (leaf-place n) d) σ (separate-apply (store-row r q) σ ((leaf-place n, d) ∷ []) (parts .0, tt) (separate-sym σ (store-row r q) (o .1)))),
         ih,
       )
 
@@ -541,7 +541,7 @@ module _ {A : Type 0} where
 
   -- nor has a row with one child, or its rest, changed
   pub once-grow-child : (c : ℕ) (t t′ : Tree A) (r r′ : Row A) (q : Tag) (x : ℕ) → OnceRow (child c t r) q → Once t′ (q ++ c ∷ []) → OnceRow r′ q
-      → Disjoint (store t′ (q ++ c ∷ [])) (store-row r q) → Disjoint (store t (q ++ c ∷ [])) (store-row r′ q) → OnceRow (ite (ℕ-discrete x c) (child c t′ r) (child c t r′)) q
+      → Separate (store t′ (q ++ c ∷ [])) (store-row r q) → Separate (store t (q ++ c ∷ [])) (store-row r′ q) → OnceRow (ite (ℕ-discrete x c) (child c t′ r) (child c t r′)) q
   once-grow-child c t t′ r r′ q x o ot or d e = go (ℕ-discrete x c)
     where
       go : (b : Dec (x ≡ c)) → OnceRow (ite b (child c t′ r) (child c t r′)) q
@@ -560,7 +560,7 @@ module _ {A : Type 0} where
         once-grow-inner pl p s a k n run r (meet s run) (λ x u. grow-row r pl x u a) o f
         (λ x u. (
           ap (λ (σ : Store A). σ here) (store-grow-row r pl (p ++ run) x u a (o .1) fr)
-              ∙ apply-clear here old tt (edits-row r pl (p ++ run) x u a) ρ (edits-row-clear r pl (p ++ run) x u a (write empty here old) (o .1) (disjoint-sym (write empty here old) ρ (single-disjoint ρ here old (o .0))) (fresh-single pl ρ here old f))
+              ∙ apply-clear here old tt (edits-row r pl (p ++ run) x u a) ρ (edits-row-clear r pl (p ++ run) x u a (write empty here old) (o .1) (separate-sym (write empty here old) ρ (single-separate ρ here old (o .0))) (fresh-single pl ρ here old f))
               ∙ o .0,
           once-grow-row r pl (p ++ run) x u a (o .1) fr,
         ))
@@ -575,6 +575,6 @@ module _ {A : Type 0} where
         (once-grow t pl (q ++ c ∷ []) u a (o .0) (fresh-left pl σ τ f))
         (once-grow-row r pl q x u a (o .2) (fresh-right pl σ τ f))
         (rw (store-grow t pl (q ++ c ∷ []) u a (o .0) (fresh-left pl σ τ f))
-        (disjoint-apply σ τ (edits t pl (q ++ c ∷ []) u a) (edits-clear t pl (q ++ c ∷ []) u a τ (o .0) (o .1) (fresh-right pl σ τ f)) (o .1)))
+        (separate-apply σ τ (edits t pl (q ++ c ∷ []) u a) (edits-clear t pl (q ++ c ∷ []) u a τ (o .0) (o .1) (fresh-right pl σ τ f)) (o .1)))
         (rw (store-grow-row r pl q x u a (o .2) (fresh-right pl σ τ f))
-        (disjoint-sym (apply τ (edits-row r pl q x u a)) σ (disjoint-apply τ σ (edits-row r pl q x u a) (edits-row-clear r pl q x u a σ (o .2) (disjoint-sym σ τ (o .1)) (fresh-left pl σ τ f)) (disjoint-sym σ τ (o .1)))))
+        (separate-sym (apply τ (edits-row r pl q x u a)) σ (separate-apply τ σ (edits-row r pl q x u a) (edits-row-clear r pl q x u a σ (o .2) (separate-sym σ τ (o .1)) (fresh-left pl σ τ f)) (separate-sym σ τ (o .1)))))

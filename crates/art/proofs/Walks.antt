@@ -18,7 +18,7 @@ use Rattle.art.specs.Drawings.{longest}
 use Rattle.art.proofs.Facts.{height-bound}
 use Rattle.art.specs.Facts.{height, row-height}
 use Rattle.art.proofs.Stores.{write-same, write-other}
-use Rattle.art.specs.Stores.{Place, leaf-place, inner-place, Cell, unused, leaf-cell, inner-cell, Store, empty, or-cell, join, write, store, store-row, root, refs, Used, Once, OnceRow, Disjoint}
+use Rattle.art.specs.Stores.{Place, leaf-place, inner-place, Cell, unused, leaf-cell, inner-cell, Store, empty, or-cell, combined, write, store, store-row, root, refs, Used, Once, OnceRow, Separate}
 use Rattle.art.specs.Walks.{walk-refs, walk-cell, walk-store, Shows, ShowsRow}
 
 module _ {A : Type 0} where
@@ -35,14 +35,14 @@ module _ {A : Type 0} where
     shows-row-within end q σ τ w h = tt
     shows-row-within (child b t r) q σ τ w h = (shows-within t (q ++ b ∷ []) σ τ w (h .0), shows-row-within r q σ τ w (h .1))
 
-  within-left : (σ τ : Store A) → Within σ (join σ τ)
+  within-left : (σ τ : Store A) → Within σ (combined σ τ)
   within-left σ τ q u = go (σ q) u
     where
       go : (c : Cell A) → Used c → or-cell c (τ q) ≡ c
       go (leaf-cell t a) v = refl
       go (inner-cell n st rs) v = refl
 
-  within-right : (σ τ : Store A) → Disjoint σ τ → Within τ (join σ τ)
+  within-right : (σ τ : Store A) → Separate σ τ → Within τ (combined σ τ)
   within-right σ τ d q u = go (d q)
     where
       go : (σ q ≡ unused) ⊎ (τ q ≡ unused) → or-cell (σ q) (τ q) ≡ τ q
@@ -67,8 +67,8 @@ module _ {A : Type 0} where
     store-shows-row (child b t r) q o =
         let σ : Store A = store t (q ++ b ∷ []) in
         let τ : Store A = store-row r q in (
-          shows-within t (q ++ b ∷ []) σ (join σ τ) (within-left σ τ) (store-shows t (q ++ b ∷ []) (o .0)),
-          shows-row-within r q τ (join σ τ) (within-right σ τ (o .1)) (store-shows-row r q (o .2)),
+          shows-within t (q ++ b ∷ []) σ (combined σ τ) (within-left σ τ) (store-shows t (q ++ b ∷ []) (o .0)),
+          shows-row-within r q τ (combined σ τ) (within-right σ τ (o .1)) (store-shows-row r q (o .2)),
         )
 
   -- ── the two walks ──

@@ -81,11 +81,11 @@ module _ {A : Type 0} where
 
   -- what the records draw
   abbrev mutual
-    pub node-erase : Node A → Drawing A
-    node-erase (leaf-node n t a) = one t a
-    node-erase (inner-node k n len st r) = branch len st (node-row-erase r)
+    pub node-sketch : Node A → Drawing A
+    node-sketch (leaf-node n t a) = one t a
+    node-sketch (inner-node k n len st r) = branch len st (node-row-sketch r)
 
     -- and so for each child of a row, with its byte
-    pub node-row-erase : NodeRow A → Kids A
-    node-row-erase end-node = done
-    node-row-erase (child-node b t r) = kid b (node-erase t) (node-row-erase r)
+    pub node-row-sketch : NodeRow A → Kids A
+    node-row-sketch end-node = done
+    node-row-sketch (child-node b t r) = kid b (node-sketch t) (node-row-sketch r)

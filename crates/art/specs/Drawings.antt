@@ -81,14 +81,14 @@ module _ {A : Type 0} where
 
   -- what a tree draws
   abbrev mutual
-    pub erase : Tag → Tree A → Drawing A
-    erase p (leaf n s a) = one (p ++ s) a
-    erase p (inner k n run r) = branch (length run) (take 8 run) (erase-row (p ++ run) r)
+    pub sketch : Tag → Tree A → Drawing A
+    sketch p (leaf n s a) = one (p ++ s) a
+    sketch p (inner k n run r) = branch (length run) (take 8 run) (sketch-row (p ++ run) r)
 
     -- and so for each child of a row, below the path q and its byte
-    pub erase-row : Tag → Row A → Kids A
-    erase-row q end = done
-    erase-row q (child b t r) = kid b (erase (q ++ b ∷ []) t) (erase-row q r)
+    pub sketch-row : Tag → Row A → Kids A
+    sketch-row q end = done
+    sketch-row q (child b t r) = kid b (sketch (q ++ b ∷ []) t) (sketch-row q r)
 
   -- ── how many entries ──
   -- one entry or more

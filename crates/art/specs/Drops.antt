@@ -11,7 +11,7 @@ use Rattle.art.specs.Tags.{Tag, tag-dec}
 use Rattle.art.specs.Trees.{Tree, leaf, inner, Row, end, child, count}
 use Rattle.art.specs.Changes.{Meet, same, short, long, part, meet}
 use Rattle.art.specs.Deletes.{Home, lost-row, cut-row, graft, prune-row}
-use Rattle.art.specs.Stores.{Place, leaf-place, inner-place, unused, leaf-cell, inner-cell, Store, Edits, apply, root, refs, cell, store, store-row, Clear, Disjoint, Once, OnceRow}
+use Rattle.art.specs.Stores.{Place, leaf-place, inner-place, unused, leaf-cell, inner-cell, Store, Edits, apply, root, refs, cell, store, store-row, Clear, Separate, Once, OnceRow}
 
 -- the place of a record that has lost a child
 abbrev pub new-home : Home → ℕ → ℕ → ℕ → Place
@@ -68,11 +68,11 @@ module _ {A : Type 0} where
   -- the writes make the store of t′, in free places beside any other store, and no place stands twice
   pub record TreeDone (t t′ : Tree A) (es : Edits A) (p : Tag) (hm : Home) : Type 0 where
     pub made : store t′ p ≡ apply (store t p) es
-    pub clear : (τ : Store A) → Disjoint (store t p) τ → Roomy hm τ → Clear τ es
+    pub clear : (τ : Store A) → Separate (store t p) τ → Roomy hm τ → Clear τ es
     pub once : Once t′ p
 
   -- and so for a row
   pub record RowDone (r r′ : Row A) (es : Edits A) (q : Tag) (hm : Home) : Type 0 where
     pub made : store-row r′ q ≡ apply (store-row r q) es
-    pub clear : (τ : Store A) → Disjoint (store-row r q) τ → Roomy hm τ → Clear τ es
+    pub clear : (τ : Store A) → Separate (store-row r q) τ → Roomy hm τ → Clear τ es
     pub once : OnceRow r′ q

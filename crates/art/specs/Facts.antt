@@ -4,7 +4,7 @@ use mathlib.Core.List.{List, [], _∷_}
 use Prim.Native.Nat.{ℕ, suc, _+_, max}
 use Rattle.art.specs.Tags.{Tag, Listing}
 use Rattle.art.specs.Trees.{Tree, leaf, inner, Row, end, child}
-use Rattle.art.specs.Drawings.{Drawing, nothing, one, branch, Kids, done, kid, erase}
+use Rattle.art.specs.Drawings.{Drawing, nothing, one, branch, Kids, done, kid, sketch}
 use Rattle.art.specs.Puts.{put, alter}
 use Rattle.art.specs.Changes.{Plan, grow}
 use Rattle.art.specs.Deletes.{Home, stay, change}
@@ -105,4 +105,4 @@ module _ {A : Type 0} where
   -- what a directory draws
   abbrev pub drawn : Option (Tree A) → Drawing A
   drawn none = nothing
-  drawn (some t) = erase [] t
+  drawn (some t) = sketch [] t

@@ -49,8 +49,8 @@ module _ {A : Type 0} where
   or-cell (inner-cell n st rs) d = inner-cell n st rs
 
   -- two stores together
-  abbrev pub join : Store A → Store A → Store A
-  join σ τ q = or-cell (σ q) (τ q)
+  abbrev pub combined : Store A → Store A → Store A
+  combined σ τ q = or-cell (σ q) (τ q)
 
   -- one cell written
   abbrev pub write : Store A → Place → Cell A → Store A
@@ -86,7 +86,7 @@ module _ {A : Type 0} where
     -- those of each child of a row, below the path q and its byte
     pub store-row : Row A → Tag → Store A
     store-row end q = empty
-    store-row (child b t r) q = join (store t (q ++ b ∷ [])) (store-row r q)
+    store-row (child b t r) q = combined (store t (q ++ b ∷ [])) (store-row r q)
 
   -- the tag of a leaf's cell; any other has none
   abbrev pub cell-tag : Cell A → Tag
@@ -108,8 +108,8 @@ module _ {A : Type 0} where
 
   -- ── no place twice ──
   -- no place is used in both
-  abbrev pub Disjoint : Store A → Store A → Type 0
-  Disjoint σ τ = (q : Place) → (σ q ≡ unused) ⊎ (τ q ≡ unused)
+  abbrev pub Separate : Store A → Store A → Type 0
+  Separate σ τ = (q : Place) → (σ q ≡ unused) ⊎ (τ q ≡ unused)
 
   -- no place stands twice in the tree
   abbrev mutual
@@ -120,7 +120,7 @@ module _ {A : Type 0} where
     -- nor in a row: in none of its trees, and no two of them share one
     pub OnceRow : Row A → Tag → Type 0
     OnceRow end q = Unit {0}
-    OnceRow (child b t r) q = Once t (q ++ b ∷ []) × Disjoint (store t (q ++ b ∷ [])) (store-row r q) × OnceRow r q
+    OnceRow (child b t r) q = Once t (q ++ b ∷ []) × Separate (store t (q ++ b ∷ [])) (store-row r q) × OnceRow r q
 
   -- the places of a plan are unused in τ, or a record stays where it is
   abbrev pub Fresh : Plan → Store A → Type 0

@@ -20,9 +20,9 @@ and-then none f = none
 and-then (some x) f = f x
 
 -- where the test holds
-abbrev pub when : {X : Type 0} → Bool → X → Option X
-when true x = some x
-when false x = none
+abbrev pub provided : {X : Type 0} → Bool → X → Option X
+provided true x = some x
+provided false x = none
 
 -- the places seen, the reference to the leaf seen last, and how many leaves were seen
 pub record State : Type 0 where
@@ -86,7 +86,7 @@ module _ {A : Type 0} where
 module _ (link : ℕ → ℕ → Bool) where
   -- leaf n is the next of the list
   abbrev pub enlist : ℕ → State → Option State
-  enlist n s = when (link (s .prev) n) (listed n s)
+  enlist n s = provided (link (s .prev) n) (listed n s)
 
   -- these leaves follow the one that r refers to, each the one before it
   abbrev pub InTurn : ℕ → List ℕ → Type 0

@@ -30,7 +30,7 @@ use Rattle.view.specs.Cells.{numberAt}
 use Rattle.states.specs.State.{State}
 use Rattle.states.proofs.OneCell.{used-pool}
 use Rattle.insert.specs.Room.{LeavesFull}
-use Rattle.demands.proofs.Sums.{sum, heft, row-heft, sum-off, sum-empty, sum-join, sum-on, heft-four}
+use Rattle.demands.proofs.Sums.{sum, heft, row-heft, sum-off, sum-empty, sum-combined, sum-on, heft-four}
 use Rattle.demands.proofs.Inner.{one}
 use Rattle.capacity.specs.Capacity.{cap, Over}
 
@@ -111,7 +111,7 @@ module _ (f : Frame) where
     row-leaves-sum : (r : Row Held) (q : Tag) → OnceRow r q → ((x : Place) → In x (row-spots r) → inPool f x ≡ true) → sum one (store-row r q) leaf-place (cap f 5) ≡ length (row-contents r)
     row-leaves-sum end q o h = sum-empty one refl leaf-place (cap f 5)
     row-leaves-sum (child b t r) q o h =
-        sum-join one refl (store t (q ++ b ∷ [])) (store-row r q) (o .1) leaf-place (cap f 5)
+        sum-combined one refl (store t (q ++ b ∷ [])) (store-row r q) (o .1) leaf-place (cap f 5)
         ∙ ap₂ _+_ (leaves-sum t (q ++ b ∷ []) (o .0) (λ x i. h x (in-left x (spots t) (row-spots r) i)) ∙ sym (under-length (b ∷ []) (contents t)))
         (row-leaves-sum r q (o .2) (λ x i. h x (in-right x (spots t) (row-spots r) i)))
         ∙ sym (length-append (under (b ∷ []) (contents t)) (row-contents r))

@@ -27,21 +27,21 @@ module _ (f : Frame) (words : List ℕ) (child : ℕ) where
   abbrev named : Bool → Place
   named b = choose b (leaf-place (child / 8)) (inner-place (child % 8) (child / 8))
 
-  pub join-here : (child % 8 ≡ 5 → ⊥) → JoinReady f words (placeAt child) → InnerHere f words (placeAt child)
-  join-here ne = go (eqb (child % 8) 5) (ne-eqb (child % 8) 5 ne)
+  pub combined-here : (child % 8 ≡ 5 → ⊥) → JoinReady f words (placeAt child) → InnerHere f words (placeAt child)
+  combined-here ne = go (eqb (child % 8) 5) (ne-eqb (child % 8) 5 ne)
     where
       go : (b : Bool) → b ≡ false → JoinReady f words (named b) → InnerHere f words (named b)
       go true e h = absurd (true≢false e)
       go false e h = h
 
   module _ (x : Place) (byte : ℕ) where
-    pub join-leaf : child % 8 ≡ 5 → words ≡ joinedAt f x (placeAt child) byte words
-    join-leaf e = sym (ap (λ (b : Bool). joinedAt f x (named b) byte words) (eq-eqb (child % 8) 5 e))
+    pub combined-leaf : child % 8 ≡ 5 → words ≡ joinedAt f x (placeAt child) byte words
+    combined-leaf e = sym (ap (λ (b : Bool). joinedAt f x (named b) byte words) (eq-eqb (child % 8) 5 e))
 
-    pub join-inner : (child % 8 ≡ 5 → ⊥)
+    pub combined-inner : (child % 8 ≡ 5 → ⊥)
         → prefixedAt f (placeAt child) (mergeOf (prefixAt (f .form) (recordAt f words x)) byte (prefixAt (f .form) (recordAt f words (placeAt child)))) words
         ≡ joinedAt f x (placeAt child) byte words
-    join-inner ne = go (eqb (child % 8) 5) (ne-eqb (child % 8) 5 ne)
+    combined-inner ne = go (eqb (child % 8) 5) (ne-eqb (child % 8) 5 ne)
       where
         go : (b : Bool) → b ≡ false
             → prefixedAt f (named b) (mergeOf (prefixAt (f .form) (recordAt f words x)) byte (prefixAt (f .form) (recordAt f words (named b)))) words ≡ joinedAt f x (named b) byte words

@@ -11,7 +11,7 @@ use Rattle.art.specs.Trees.{Tree}
 use Rattle.art.specs.Drawings.{draw}
 use Rattle.art.specs.Deletes.{held, Sane}
 use Rattle.art.specs.Facts.{branchings, drawn}
-use Rattle.art.proofs.Drawings.{erase-is-draw}
+use Rattle.art.proofs.Drawings.{sketch-is-draw}
 use Rattle.pools.specs.Start.{startOf}
 use Rattle.pools.specs.declared.start.Started.the-variants as started
 use Rattle.reading.specs.Answers.{Bytes}
@@ -34,7 +34,7 @@ drawing-is d g = go (plain-of d) (plain-sane d g) ∙ ap draw (plain-held d)
   where
     go : (d : Option (Tree ℕ)) → Sane d → drawn d ≡ draw (held d)
     go none h = refl
-    go (some t) h = erase-is-draw t h
+    go (some t) h = sketch-is-draw t h
 
 pub sound-story : (b : Block) (s : Sound (b .words) (b .keys)) → Bytes (b .keys) → {l : Listing ℕ} {n : Tally} → totals (held (s .tree)) ≡ l → Tallied l n → Story b l n
 sound-story b s k {l} {n} e m = record {

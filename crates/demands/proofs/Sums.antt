@@ -15,7 +15,7 @@ use Rattle.frames.specs.declared.frame.Frame.{Frame}
 use Rattle.records.specs.View.{Held}
 use Rattle.art.specs.Tags.{Tag}
 use Rattle.art.specs.Trees.{Tree, leaf, inner, Row, end, child}
-use Rattle.art.specs.Stores.{Place, leaf-place, inner-place, place-dec, Cell, unused, leaf-cell, inner-cell, Store, empty, or-cell, join, write, refs, store, store-row, Used, Disjoint, Once, OnceRow}
+use Rattle.art.specs.Stores.{Place, leaf-place, inner-place, place-dec, Cell, unused, leaf-cell, inner-cell, Store, empty, or-cell, combined, write, refs, store, store-row, Used, Separate, Once, OnceRow}
 use Rattle.art.specs.Visit.{spots, row-spots}
 use Rattle.art.specs.Members.{In}
 use Rattle.art.proofs.Members.{in-left, in-right}
@@ -66,9 +66,9 @@ module _ (w : Cell Held → ℕ) where
     sum-empty at zero = refl
     sum-empty at (suc m) = omega (arith, sum-empty at m, nothing)
 
-    pub sum-join : (σ τ : Store Held) → Disjoint σ τ → (at : ℕ → Place) (m : ℕ) → sum (join σ τ) at m ≡ sum σ at m + sum τ at m
-    sum-join σ τ d at zero = refl
-    sum-join σ τ d at (suc m) = omega (arith, sum-join σ τ d at m, weigh-or (σ (at m)) (τ (at m)) (d (at m)))
+    pub sum-combined : (σ τ : Store Held) → Separate σ τ → (at : ℕ → Place) (m : ℕ) → sum (combined σ τ) at m ≡ sum σ at m + sum τ at m
+    sum-combined σ τ d at zero = refl
+    sum-combined σ τ d at (suc m) = omega (arith, sum-combined σ τ d at m, weigh-or (σ (at m)) (τ (at m)) (d (at m)))
 
     -- a free place among them
     pub sum-on : (at : ℕ → Place) → ((i j : ℕ) → at i ≡ at j → i ≡ j) → (σ : Store Held) (n : ℕ) (c : Cell Held) → σ (at n) ≡ unused → (m : ℕ) → n < m
@@ -98,9 +98,9 @@ module _ (w : Cell Held → ℕ) where
           let none : (k : ℕ) → inners empty k ≡ 0 = λ k. sum-empty (inner-place k) (getD (f .caps) k 0) in
           omega (arith, none 1, none 2, none 3, none 4)
 
-      four-join : (σ τ : Store Held) → Disjoint σ τ → four f (join σ τ) ≡ four f σ + four f τ
-      four-join σ τ d =
-          let add : (k : ℕ) → inners (join σ τ) k ≡ inners σ k + inners τ k = λ k. sum-join σ τ d (inner-place k) (getD (f .caps) k 0) in
+      four-combined : (σ τ : Store Held) → Separate σ τ → four f (combined σ τ) ≡ four f σ + four f τ
+      four-combined σ τ d =
+          let add : (k : ℕ) → inners (combined σ τ) k ≡ inners σ k + inners τ k = λ k. sum-combined σ τ d (inner-place k) (getD (f .caps) k 0) in
           omega (arith, add 1, add 2, add 3, add 4)
 
       -- a leaf is not among them
@@ -141,5 +141,5 @@ module _ (w : Cell Held → ℕ) where
           row-heft-four : (r : Row Held) (q : Tag) → OnceRow r q → ((x : Place) → In x (row-spots r) → inPool f x ≡ true) → four f (store-row r q) ≡ row-heft r
           row-heft-four end q o h = four-empty
           row-heft-four (child b t r) q o h =
-              four-join (store t (q ++ b ∷ [])) (store-row r q) (o .1)
+              four-combined (store t (q ++ b ∷ [])) (store-row r q) (o .1)
               ∙ ap₂ _+_ (heft-four t (q ++ b ∷ []) (o .0) (λ x i. h x (in-left x (spots t) (row-spots r) i))) (row-heft-four r q (o .2) (λ x i. h x (in-right x (spots t) (row-spots r) i)))

@@ -7,7 +7,7 @@ use mathlib.Core.Bool.{Bool}
 use native.Mathlib.Omega.{arith}
 use lib.ListN.{length, getD, set}
 use lib.Dec.{eqb, leb}
-use Rattle.lists.specs.Scan.{choose, nonzero, count}
+use Rattle.lists.specs.Scan.{choose, nonzero, howMany}
 use Rattle.lists.specs.Part.{between}
 use Rattle.lists.proofs.Tests.{count-le}
 use Rattle.lists.proofs.Parts.{between-length}
@@ -81,7 +81,7 @@ module _ {kind : ℕ} {body : List ℕ} {n : ℕ} {row : Row} (h : Holds kind bo
   pub spread-shows : directRow (bodySpread kind body n) ≡ row
   spread-shows = table .1
 
-  pub spread-count : count nonzero (bodySpread kind body n) ≡ n
+  pub spread-count : howMany nonzero (bodySpread kind body n) ≡ n
   spread-count = sym (filled-length 0 (bodySpread kind body n)) ∙ ap length spread-shows ∙ size
 
   -- it is a body of kind 4

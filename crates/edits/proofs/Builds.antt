@@ -9,7 +9,7 @@ use lib.Dec.{lit≤}
 use borrow.Author.Tests.{eq-eqb, ne-eqb}
 use mathlib.Core.Bool.{Bool}
 use mathlib.Core.Logic.{inl, inr}
-use Rattle.lists.specs.Scan.{choose, nonzero, count, atMost}
+use Rattle.lists.specs.Scan.{choose, nonzero, howMany, atMost}
 use Rattle.lists.specs.Part.{between, splice}
 use Rattle.lists.proofs.Tests.{all-zero, all-between, zeros-all, count-le}
 use Rattle.lists.proofs.Parts.{between-length}
@@ -68,7 +68,7 @@ module _ (form : Form) (kind : ℕ) (w : List ℕ) (n h e : ℕ) (zeros : w ≡ 
       ∙ ap (λ (k : ℕ). replicate k 0) m
 
   -- with a body and a head laid over the zeros it is the record of the row
-  pub built : Stores form → (p : Prefix) (places body : List ℕ) (m : ℕ) → m ≡ count nonzero places → body ≡ bodyOf kind (directRow places)
+  pub built : Stores form → (p : Prefix) (places body : List ℕ) (m : ℕ) → m ≡ howMany nonzero places → body ≡ bodyOf kind (directRow places)
       → setHead form kind m p (splice w h e body) ≡ buildRec form kind p (directRow places)
   unfolding buildRec
   built stores p places body m many b =
@@ -88,7 +88,7 @@ tab-is (x ∷ xs) b g e =
 place-ref : (places : List ℕ) → length places ≡ 256 → (i : ℕ) → i < 256 → refFor i (directRow places) ≡ getD places i 0
 unfolding bodyOk directOk bodyRow childOf kindRow
 place-ref places long i h =
-    let n = count nonzero places in
+    let n = howMany nonzero places in
     let w : BodyFits 4 places n = record { low = lit≤ tt; high = lit≤ tt; long = long; few = omega (arith, count-le nonzero places); ok = eq-eqb n n refl } in
     sym (body-row w .child-for i h)
 

@@ -9,7 +9,7 @@ use lib.ListN.{length, getD, take, set, replicate, length-append, length-set, re
 use lib.Seq.{take-suc, take-all, length-take-le, set-append-left, set-at}
 use lib.Dec.{eqb, ltb}
 use borrow.Author.Tests.{eqb-true, eqb-false, eq-eqb, ne-eqb, lt-ltb, ltb-true}
-use Rattle.lists.specs.Scan.{choose, nonzero, all, count}
+use Rattle.lists.specs.Scan.{choose, nonzero, allPass, howMany}
 use Rattle.lists.proofs.Scans.{Count, count-start, count-on, count-off}
 use Rattle.lists.proofs.Tests.{both, and-both}
 use Rattle.lists.proofs.Edits.{padded-length}
@@ -28,7 +28,7 @@ more row b r = row ++ ((b, r) ∷ [])
 
 -- all its bytes are below b
 abbrev pub Under : ℕ → Pairs → Type 0
-Under b row = all (λ x. ltb x b) (bytesOf row) ≡ true
+Under b row = allPass (λ x. ltb x b) (bytesOf row) ≡ true
 
 -- the slot number of a byte behind a row's first child, from that in the rest of the row
 abbrev next : ℕ → ℕ
@@ -51,7 +51,7 @@ ref-more [] b r j u = go (eqb b j)
     go true = refl
     go false = refl
 ref-more (e ∷ es) b r j u =
-    let p = both (ltb (e .0) b) (all (λ x. ltb x b) (bytesOf es)) u in
+    let p = both (ltb (e .0) b) (allPass (λ x. ltb x b) (bytesOf es)) u in
     go (eqb (e .0) j) refl (ltb-true _ _ (p .0)) (ref-more es b r j (p .1))
   where
     go : (t : Bool) → eqb (e .0) j ≡ t → e .0 < b → refFor j (more es b r) ≡ choose (eqb b j) r (refFor j es)
@@ -66,7 +66,7 @@ slot-more [] b r j u = go (eqb b j)
     go true = refl
     go false = refl
 slot-more (e ∷ es) b r j u =
-    let p = both (ltb (e .0) b) (all (λ x. ltb x b) (bytesOf es)) u in
+    let p = both (ltb (e .0) b) (allPass (λ x. ltb x b) (bytesOf es)) u in
     go (eqb (e .0) j) refl (ltb-true _ _ (p .0)) (slot-more es b r j (p .1))
   where
     later : (t : Bool) (s : ℕ) → s ≡ choose t (length es + 1) (slotFor j es) → next s ≡ choose t (suc (length es) + 1) (next (slotFor j es))
@@ -182,7 +182,7 @@ pub record Puts (k : ℕ) (build : Pairs → List ℕ) (put : ℕ → ℕ → �
   pub one : (row : Pairs) (b r : ℕ) → Under b row → b < 256 → length row < k → build (more row b r) ≡ put (length row) b r (build row)
 
 module _ {k : ℕ} {build : Pairs → List ℕ} {put : ℕ → ℕ → ℕ → List ℕ → List ℕ} (law : Puts k build put) where
-  module _ {places body : List ℕ} {byte n : ℕ} (f : Filling build places body byte n) (long : length places ≡ 256) (few : count nonzero places ≤ k) (h : byte < 256) where
+  module _ {places body : List ℕ} {byte n : ℕ} (f : Filling build places body byte n) (long : length places ≡ 256) (few : howMany nonzero places ≤ k) (h : byte < 256) where
     abbrev ref : ℕ
     ref = getD places byte 0
 

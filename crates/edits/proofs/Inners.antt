@@ -7,7 +7,7 @@ use native.Mathlib.Omega.{arith}
 use lib.ListN.{length, getD, set, replicate, length-set, length-append, length-replicate, List·getD-append}
 use lib.Seq.{ext-getD, getD-set-same, getD-set-other}
 use borrow.Author.Tests.{eq-eqb, ne-eqb, le-leb}
-use Rattle.lists.specs.Scan.{choose, atMost, all, nonzero, count}
+use Rattle.lists.specs.Scan.{choose, atMost, allPass, nonzero, howMany}
 use Rattle.lists.specs.Part.{between}
 use Rattle.lists.proofs.Tests.{and-both}
 use Rattle.lists.proofs.Parts.{between-length, between-at, between-left, between-middle, between-set-before, splice-length, splice-same, splice-before, splice-after, splice-at-before}
@@ -81,7 +81,7 @@ module _ {form : Form} {kind : ℕ} {rec : List ℕ} {p : Prefix} {row : Row} (i
       ∙ ap (λ (n : ℕ). shown n p row) inner-full
 
   -- its references by their bytes
-  pub spread-of : (length (spreadOf form kind rec) ≡ 256) × (directRow (spreadOf form kind rec) ≡ row) × (count nonzero (spreadOf form kind rec) ≡ length row)
+  pub spread-of : (length (spreadOf form kind rec) ≡ 256) × (directRow (spreadOf form kind rec) ≡ row) × (howMany nonzero (spreadOf form kind rec) ≡ length row)
   unfolding spreadOf
   spread-of = (spread-length-is inner-holds, spread-shows inner-holds, spread-count inner-holds ∙ sym inner-size)
 
@@ -102,8 +102,8 @@ inner-made form kind rec n p body row long h f two e s =
     (eq-eqb (getD rec 0 0) kind (h .first))
     (le-leb 2 (getD rec 1 0) (omega (arith, h .second))))
     (le-leb (getD rec 2 0) (form .limit) (omega (arith, f .short))))
-    (ap (all (atMost 255)) stored ∙ f .bytes))
-    (ap₂ (λ (l : List ℕ) (m : ℕ). all (atMost 0) (between l (capped m) 8)) stored full ∙ f .rest) in
+    (ap (allPass (atMost 255)) stored ∙ f .bytes))
+    (ap₂ (λ (l : List ℕ) (m : ℕ). allPass (atMost 0) (between l (capped m) 8)) stored full ∙ f .rest) in
     let ok : innerOk form kind rec ≡ true =
     and-both (le-leb (getD rec 1 0) (childrenOf kind) (omega (arith, h .second, s .fits .few))) (and-both head (ap₂ (bodyOk kind) e (h .second) ∙ s .fits .ok)) in
     record {
@@ -199,7 +199,7 @@ module _ (form : Form) (stores : Stores form) (p : Prefix) (rec : List ℕ) (eig
   unfolding setPrefix
   early i h = splice-at-before full s (header form) words (omega arith) (omega (arith, full-long)) fits-8 i (omega arith)
 
-  pub prefix-head : all (atMost 255) (p .stored) ≡ true → Head form (setPrefix form p rec) (getD rec 0 0) (getD rec 1 0) p
+  pub prefix-head : allPass (atMost 255) (p .stored) ≡ true → Head form (setPrefix form p rec) (getD rec 0 0) (getD rec 1 0) p
   unfolding setPrefix
   prefix-head bytes =
       record {

@@ -7,7 +7,7 @@ use native.Mathlib.Omega.{arith}
 use lib.ListN.{length, getD}
 use lib.Dec.{eqb, ltb}
 use borrow.Author.Tests.{le-leb, lt-leb, eq-eqb, lt-ltb, ltb-true, leb-true, ltb-false, eqb-false}
-use Rattle.lists.specs.Scan.{choose, is, atMost, nonzero, first, count}
+use Rattle.lists.specs.Scan.{choose, is, atMost, nonzero, first, howMany}
 use Rattle.lists.specs.Part.{between}
 use Rattle.lists.proofs.Tests.{all-at, all-by, first-le, first-none, count-all}
 use Rattle.lists.proofs.Parts.{between-length}
@@ -54,7 +54,7 @@ module _ {kind : ℕ} {body : List ℕ} {n : ℕ} (w : BodyFits kind body n) (by
       (slot-some e, omega (arith, front-at body 256 byte l))
 
 -- a list that is not all filled has an empty place
-first-empty : (l : List ℕ) → count nonzero l < length l → first (is 0) l < length l
+first-empty : (l : List ℕ) → howMany nonzero l < length l → first (is 0) l < length l
 first-empty l h = go (ltb (first (is 0) l) (length l)) refl
   where
     go : (t : Bool) → ltb (first (is 0) l) (length l) ≡ t → first (is 0) l < length l

@@ -10,7 +10,7 @@ use lib.ListN.{length, getD, set, replicate, length-set, length-append}
 use lib.Seq.{ext-getD, getD-set-same, getD-set-other, set-getD}
 use lib.Dec.{eqb, ltb, leb·suc-suc}
 use borrow.Author.Tests.{eq-eqb, ne-eqb, eqb-true, eqb-false, lt-ltb, le-ltb, ltb-true, ltb-false, le-leb, leb-true}
-use Rattle.lists.specs.Scan.{choose, is, atMost, nonzero, all, first, count}
+use Rattle.lists.specs.Scan.{choose, is, atMost, nonzero, allPass, first, howMany}
 use Rattle.lists.specs.Part.{between}
 use Rattle.lists.proofs.Tests.{and-both, all-at, all-by, all-set, first-le, first-passes, first-none, count-append, count-all, count-none}
 use Rattle.lists.proofs.Parts.{between-length, between-at, between-middle, between-set-before, between-set-after, between-set-in}
@@ -38,36 +38,36 @@ abbrev bit : Bool → ℕ
 bit b = choose b 1 0
 
 -- ── counts after one element was written ──
-count-set : (p : ℕ → Bool) (l : List ℕ) (i x : ℕ) → i < length l → count p (set l i x) + bit (p (getD l i 0)) ≡ count p l + bit (p x)
+count-set : (p : ℕ → Bool) (l : List ℕ) (i x : ℕ) → i < length l → howMany p (set l i x) + bit (p (getD l i 0)) ≡ howMany p l + bit (p x)
 count-set p [] i x h = absurd (omega arith)
 count-set p (y ∷ ys) zero x h = go (p x) (p y)
   where
-    go : (a b : Bool) → choose a (suc (count p ys)) (count p ys) + bit b ≡ choose b (suc (count p ys)) (count p ys) + bit a
+    go : (a b : Bool) → choose a (suc (howMany p ys)) (howMany p ys) + bit b ≡ choose b (suc (howMany p ys)) (howMany p ys) + bit a
     go true true = refl
     go true false = omega arith
     go false true = omega arith
     go false false = refl
 count-set p (y ∷ ys) (suc i) x h = go (p y) (count-set p ys i x (omega arith))
   where
-    go : (b : Bool) → count p (set ys i x) + bit (p (getD ys i 0)) ≡ count p ys + bit (p x)
-        → choose b (suc (count p (set ys i x))) (count p (set ys i x)) + bit (p (getD ys i 0)) ≡ choose b (suc (count p ys)) (count p ys) + bit (p x)
+    go : (b : Bool) → howMany p (set ys i x) + bit (p (getD ys i 0)) ≡ howMany p ys + bit (p x)
+        → choose b (suc (howMany p (set ys i x))) (howMany p (set ys i x)) + bit (p (getD ys i 0)) ≡ choose b (suc (howMany p ys)) (howMany p ys) + bit (p x)
     go true e = omega arith
     go false e = e
 
-named-of : (slots : List ℕ) (j : ℕ) (rs : List ℕ) → ((i : ℕ) → i < length rs → count (is (j + i + 1)) slots ≡ bit (nonzero (getD rs i 0))) → named slots j rs ≡ true
+named-of : (slots : List ℕ) (j : ℕ) (rs : List ℕ) → ((i : ℕ) → i < length rs → howMany (is (j + i + 1)) slots ≡ bit (nonzero (getD rs i 0))) → named slots j rs ≡ true
 named-of slots j [] h = refl
 named-of slots j (r ∷ rs) h =
-    and-both (eq-eqb _ _ (ap (λ (k : ℕ). count (is k) slots) (let e : j + 1 ≡ j + 0 + 1 = omega arith in e) ∙ h 0 (omega arith)))
-    (named-of slots (j + 1) rs (λ i l. ap (λ (k : ℕ). count (is k) slots) (let e : j + 1 + i + 1 ≡ j + suc i + 1 = omega arith in e) ∙ h (suc i) (omega arith)))
+    and-both (eq-eqb _ _ (ap (λ (k : ℕ). howMany (is k) slots) (let e : j + 1 ≡ j + 0 + 1 = omega arith in e) ∙ h 0 (omega arith)))
+    (named-of slots (j + 1) rs (λ i l. ap (λ (k : ℕ). howMany (is k) slots) (let e : j + 1 + i + 1 ≡ j + suc i + 1 = omega arith in e) ∙ h (suc i) (omega arith)))
 
 -- the rule and the row from the two parts
 indirect-shown : (body : List ℕ) (n : ℕ) (row : Row) (slots refs : List ℕ) → length body ≡ 304 → between body 0 256 ≡ slots → between body 256 304 ≡ refs
-    → all (atMost 48) slots ≡ true → count nonzero refs ≡ n → named slots 0 refs ≡ true → filled 0 (spread refs slots) ≡ row → Indirect body n row
+    → allPass (atMost 48) slots ≡ true → howMany nonzero refs ≡ n → named slots 0 refs ≡ true → filled 0 (spread refs slots) ≡ row → Indirect body n row
 unfolding indirectOk
 indirect-shown body n row slots refs long es er low many names e =
     record {
       long = long;
-      ok = and-both (and-both (ap (all (atMost 48)) es ∙ low) (eq-eqb _ _ (ap (count nonzero) er ∙ many))) (ap₂ (λ (x y : List ℕ). named x 0 y) es er ∙ names);
+      ok = and-both (and-both (ap (allPass (atMost 48)) es ∙ low) (eq-eqb _ _ (ap (howMany nonzero) er ∙ many))) (ap₂ (λ (x y : List ℕ). named x 0 y) es er ∙ names);
       shows = ap₂ (λ (x y : List ℕ). filled 0 (spread y x)) es er ∙ e;
     }
 
@@ -75,7 +75,7 @@ indirect-shown body n row slots refs long es er low many names e =
 record SlotWrite (slots refs : List ℕ) (b j x y : ℕ) (p q : Bool) : Type 0 where
   s256 : length slots ≡ 256
   r48 : length refs ≡ 48
-  low : all (atMost 48) slots ≡ true
+  low : allPass (atMost 48) slots ≡ true
   names : named slots 0 refs ≡ true
   bl : b < 256
   jl : j < 48
@@ -94,30 +94,30 @@ module _ {slots refs : List ℕ} {b j x y : ℕ} {p q : Bool} (c : SlotWrite slo
   names-other true w e i h = ap bit (ne-eqb w (0 + i + 1) (λ z. h (omega arith)))
   names-other false w e i h = ap bit (ne-eqb w (0 + i + 1) (λ z. omega arith))
 
-  change : (v i : ℕ) → count (is (0 + i + 1)) (set slots b v) + bit (eqb (getD slots b 0) (0 + i + 1)) ≡ count (is (0 + i + 1)) slots + bit (eqb v (0 + i + 1))
+  change : (v i : ℕ) → howMany (is (0 + i + 1)) (set slots b v) + bit (eqb (getD slots b 0) (0 + i + 1)) ≡ howMany (is (0 + i + 1)) slots + bit (eqb v (0 + i + 1))
   change v i = count-set (is (0 + i + 1)) slots b v (omega (arith, c .bl))
 
-  before : (i : ℕ) → i < 48 → count (is (0 + i + 1)) slots ≡ bit (nonzero (getD refs i 0))
+  before : (i : ℕ) → i < 48 → howMany (is (0 + i + 1)) slots ≡ bit (nonzero (getD refs i 0))
   before i h = named-get slots 0 refs (c .names) i (omega arith)
 
-  at-j : count (is (0 + j + 1)) slots ≡ bit p
+  at-j : howMany (is (0 + j + 1)) slots ≡ bit p
   at-j = before j (c .jl) ∙ ap bit (c .full)
 
-  changed-low : all (atMost 48) (set slots b x) ≡ true
+  changed-low : allPass (atMost 48) (set slots b x) ≡ true
   changed-low = all-set (atMost 48) slots b x (c .low) (le-leb x 48 (go q (c .now)))
     where
       go : (t : Bool) → x ≡ choose t (j + 1) 0 → x ≤ 48
       go true e = omega arith
       go false e = omega arith
 
-  changed-many : count nonzero (set refs j y) + bit p ≡ count nonzero refs + bit q
+  changed-many : howMany nonzero (set refs j y) + bit p ≡ howMany nonzero refs + bit q
   changed-many =
       omega (arith, count-set nonzero refs j y (omega arith), ap bit (c .full), ap bit (c .fills))
 
   changed-names : named (set slots b x) 0 (set refs j y) ≡ true
   changed-names = named-of (set slots b x) 0 (set refs j y) (λ i l. go i (omega (arith, length-set refs j y)) (ℕ-discrete i j))
     where
-      go : (i : ℕ) → i < 48 → Dec (i ≡ j) → count (is (0 + i + 1)) (set slots b x) ≡ bit (nonzero (getD (set refs j y) i 0))
+      go : (i : ℕ) → i < 48 → Dec (i ≡ j) → howMany (is (0 + i + 1)) (set slots b x) ≡ bit (nonzero (getD (set refs j y) i 0))
       go i h (yes e) =
           let new : bit (nonzero (getD (set refs j y) i 0)) ≡ bit q =
           ap (λ (k : ℕ). bit (nonzero (getD (set refs j y) k 0))) e ∙ ap (λ (r : ℕ). bit (nonzero r)) (getD-set-same refs j y 0 (omega arith)) ∙ ap bit (c .fills) in
@@ -129,7 +129,7 @@ module _ {slots refs : List ℕ} {b j x y : ℕ} {p q : Bool} (c : SlotWrite slo
   -- no other byte's slot number names place j
   alone : (i : ℕ) → i < 256 → (i ≡ b → ⊥) → getD slots i 0 ≡ j + 1 → ⊥
   alone i h n e =
-      let none : count (is (0 + j + 1)) (set slots b 0) ≡ 0 = omega (arith, change 0 j, at-j, names-j p (getD slots b 0) (c .was) j refl, names-j false 0 refl j refl) in
+      let none : howMany (is (0 + j + 1)) (set slots b 0) ≡ 0 = omega (arith, change 0 j, at-j, names-j p (getD slots b 0) (c .was) j refl, names-j false 0 refl j refl) in
       omega (arith, count-has (is (0 + j + 1)) (set slots b 0) i (omega (arith, length-set slots b 0)) (ap (is (0 + j + 1)) (getD-set-other slots b i 0 0 n) ∙ eq-eqb (getD slots i 0) (0 + j + 1) (omega arith)))
 
   here : (t : Bool) → x ≡ choose t (j + 1) 0 → nonzero y ≡ t → byslot (set refs j y) x ≡ y
@@ -176,7 +176,7 @@ module _ (body : List ℕ) (n : ℕ) (row : Row) (s : Indirect body n row) (few 
   abbrev w : ℕ
   w = getD slots b 0
 
-  rule : (length body ≡ 304) × SlotsFit body × (count nonzero refs ≡ n)
+  rule : (length body ≡ 304) × SlotsFit body × (howMany nonzero refs ≡ n)
   unfolding bodyOk kindRow
   rule =
       let w : BodyFits 3 body n = record { low = omega arith; high = omega arith; long = s .long; few = few; ok = s .ok } in
@@ -250,7 +250,7 @@ module _ (body : List ℕ) (n : ℕ) (row : Row) (s : Indirect body n row) (few 
       go (yes h) = (h, eqb-true _ _ (first-passes (is 0) refs (omega (arith, r48))))
       go (no h) =
           let end : first (is 0) refs ≡ length refs = omega (arith, first-le (is 0) refs, r48) in
-          let full : all nonzero refs ≡ true = all-by nonzero refs (λ i l. let z : getD refs i 0 ≡ 0 → ⊥ = eqb-false (getD refs i 0) 0 (first-none (is 0) refs end i l) in lt-ltb 0 (getD refs i 0) (omega arith)) in
+          let full : allPass nonzero refs ≡ true = all-by nonzero refs (λ i l. let z : getD refs i 0 ≡ 0 → ⊥ = eqb-false (getD refs i 0) 0 (first-none (is 0) refs end i l) in lt-ltb 0 (getD refs i 0) (omega arith)) in
           absurd (omega (arith, count-all nonzero refs full, rule .2, r48))
 
   indirect-add : (r : ℕ) → n < 48 → refFor b row ≡ 0 → 0 < r → Indirect (slotAdd body b r) (n + 1) (rowInsert b r row)
@@ -325,7 +325,7 @@ spread-tab refs zero b g = refl
 spread-tab refs (suc m) b g = ap (λ (l : List ℕ). byslot refs (g b) ∷ l) (spread-tab refs m (suc b) g)
 
 -- each place of the row is named once
-count-shift : (i m b : ℕ) (g : ℕ → ℕ) → count (is (suc i + 1)) (tab m b (λ j. shift (g j))) ≡ count (is (i + 1)) (tab m b g)
+count-shift : (i m b : ℕ) (g : ℕ → ℕ) → howMany (is (suc i + 1)) (tab m b (λ j. shift (g j))) ≡ howMany (is (i + 1)) (tab m b g)
 count-shift i zero b g = refl
 count-shift i (suc m) b g = ap₂ (λ (t : Bool) (n : ℕ). choose t (suc n) n) (go (g b) (eqb (g b) 0) refl (eqb (g b) (i + 1)) refl) (count-shift i m (suc b) g)
   where
@@ -335,7 +335,7 @@ count-shift i (suc m) b g = ap₂ (λ (t : Bool) (n : ℕ). choose t (suc n) n) 
     go s false e true h = eq-eqb (suc s) (suc i + 1) (omega (arith, eqb-true s (i + 1) h))
     go s false e false h = let n : s ≡ i + 1 → ⊥ = eqb-false s (i + 1) h in ne-eqb (suc s) (suc i + 1) (λ q. n (omega arith))
 
-count-shift-one : (m b : ℕ) (g : ℕ → ℕ) → count (is 1) (tab m b (λ j. shift (g j))) ≡ 0
+count-shift-one : (m b : ℕ) (g : ℕ → ℕ) → howMany (is 1) (tab m b (λ j. shift (g j))) ≡ 0
 count-shift-one zero b g = refl
 count-shift-one (suc m) b g = ap₂ (λ (t : Bool) (n : ℕ). choose t (suc n) n) (go (g b) (eqb (g b) 0) refl) (count-shift-one m (suc b) g)
   where
@@ -344,10 +344,10 @@ count-shift-one (suc m) b g = ap₂ (λ (t : Bool) (n : ℕ). choose t (suc n) n
     go s false e = let n : s ≡ 0 → ⊥ = eqb-false s 0 e in ne-eqb (suc s) 1 (λ q. n (omega arith))
 
 -- one slot number more in front
-front : (s i : ℕ) (l : List ℕ) → (s ≡ i + 1 → ⊥) → count (is (i + 1)) (s ∷ l) ≡ count (is (i + 1)) l
-front s i l n = ap (λ (t : Bool). choose t (suc (count (is (i + 1)) l)) (count (is (i + 1)) l)) (ne-eqb s (i + 1) n)
+front : (s i : ℕ) (l : List ℕ) → (s ≡ i + 1 → ⊥) → howMany (is (i + 1)) (s ∷ l) ≡ howMany (is (i + 1)) l
+front s i l n = ap (λ (t : Bool). choose t (suc (howMany (is (i + 1)) l)) (howMany (is (i + 1)) l)) (ne-eqb s (i + 1) n)
 
-slot-once : (m b : ℕ) (row : Row) → b + m ≡ 256 → Climbs b row → (i : ℕ) → count (is (i + 1)) (tab m b (λ j. slotFor j row)) ≡ bit (ltb i (length row))
+slot-once : (m b : ℕ) (row : Row) → b + m ≡ 256 → Climbs b row → (i : ℕ) → howMany (is (i + 1)) (tab m b (λ j. slotFor j row)) ≡ bit (ltb i (length row))
 slot-once zero b [] e c i = sym (ap bit (le-ltb i 0 (omega arith)))
 slot-once zero b (x ∷ row) e c i = absurd (omega (arith, c .0 .low, c .0 .byte))
 slot-once (suc m) b [] e c i = front 0 i (tab m (suc b) (λ j. 0)) (λ q. omega arith) ∙ slot-once m (suc b) [] (omega arith) tt i
@@ -359,7 +359,7 @@ slot-once (suc m) b (x ∷ row) e c i = go (eqb (x .0) b) refl (λ v. slot-once 
     shifted : List ℕ
     shifted = tab m (suc b) (λ j. shift (slotFor j row))
 
-    by : (i : ℕ) → ((k : ℕ) → count (is (k + 1)) (tab m (suc b) (λ j. slotFor j row)) ≡ bit (ltb k (length row))) → count (is (i + 1)) (1 ∷ shifted) ≡ bit (ltb i (suc (length row)))
+    by : (i : ℕ) → ((k : ℕ) → howMany (is (k + 1)) (tab m (suc b) (λ j. slotFor j row)) ≡ bit (ltb k (length row))) → howMany (is (i + 1)) (1 ∷ shifted) ≡ bit (ltb i (suc (length row)))
     by zero k = ap suc (count-shift-one m (suc b) (λ j. slotFor j row)) ∙ sym (ap bit (lt-ltb 0 (suc (length row)) (omega arith)))
     by (suc i) k =
         front 1 (suc i) shifted (λ q. omega arith)
@@ -367,17 +367,17 @@ slot-once (suc m) b (x ∷ row) e c i = go (eqb (x .0) b) refl (λ v. slot-once 
         ∙ k i
         ∙ ap bit (sym (leb·suc-suc (suc i) (length row)))
 
-    go : (t : Bool) → eqb (x .0) b ≡ t → (Climbs (suc b) (x ∷ row) → count (is (i + 1)) more ≡ bit (ltb i (suc (length row))))
-        → (Climbs (suc b) row → (k : ℕ) → count (is (k + 1)) (tab m (suc b) (λ j. slotFor j row)) ≡ bit (ltb k (length row)))
-        → count (is (i + 1)) (slotFor b (x ∷ row) ∷ more) ≡ bit (ltb i (suc (length row)))
+    go : (t : Bool) → eqb (x .0) b ≡ t → (Climbs (suc b) (x ∷ row) → howMany (is (i + 1)) more ≡ bit (ltb i (suc (length row))))
+        → (Climbs (suc b) row → (k : ℕ) → howMany (is (k + 1)) (tab m (suc b) (λ j. slotFor j row)) ≡ bit (ltb k (length row)))
+        → howMany (is (i + 1)) (slotFor b (x ∷ row) ∷ more) ≡ bit (ltb i (suc (length row)))
     go false q h k =
         let n : x .0 ≡ b → ⊥ = eqb-false (x .0) b q in
         let v : Climbs (suc b) (x ∷ row) = (record { low = omega (arith, c .0 .low); byte = c .0 .byte; some = c .0 .some }, c .1) in
-        ap (λ (s : ℕ). count (is (i + 1)) (s ∷ more)) (slot-none b (suc b) (x ∷ row) v (omega arith)) ∙ front 0 i more (λ q. omega arith) ∙ h v
+        ap (λ (s : ℕ). howMany (is (i + 1)) (s ∷ more)) (slot-none b (suc b) (x ∷ row) v (omega arith)) ∙ front 0 i more (λ q. omega arith) ∙ h v
     go true q h k =
         let same : x .0 ≡ b = eqb-true (x .0) b q in
-        ap (λ (t : Bool). count (is (i + 1)) (choose t 1 (shift (slotFor b row)) ∷ more)) q
-        ∙ ap (λ (l : List ℕ). count (is (i + 1)) (1 ∷ l))
+        ap (λ (t : Bool). howMany (is (i + 1)) (choose t 1 (shift (slotFor b row)) ∷ more)) q
+        ∙ ap (λ (l : List ℕ). howMany (is (i + 1)) (1 ∷ l))
         (tab-as m (suc b) (λ j. slotFor j (x ∷ row)) (λ j. shift (slotFor j row)) (λ j l. slot-later j x row (λ z. omega arith)))
         ∙ by i (k (subst (λ (y : ℕ). Climbs (suc y) row) same (c .1)))
 
@@ -405,7 +405,7 @@ indirect-built row few c =
     (tab-all (atMost 48) 256 0 (λ b. slotFor b row) (λ i. le-leb (slotFor i row) 48 (omega (arith, slot-small i row))))
     (count-append nonzero (refsOf row) (replicate m 0)
     ∙ omega (arith, count-all nonzero (refsOf row) (refs-nonzero 0 row c), refs-length row, count-none nonzero (replicate m 0) (λ i l. zero-at m i)))
-    (named-of slots 0 refs (λ i l. ap (λ (k : ℕ). count (is k) slots) (let q : 0 + i + 1 ≡ i + 1 = omega arith in q)
+    (named-of slots 0 refs (λ i l. ap (λ (k : ℕ). howMany (is k) slots) (let q : 0 + i + 1 ≡ i + 1 = omega arith in q)
     ∙ slot-once 256 0 row refl c i
     ∙ ap bit (sym (refs-filled 0 row m i c))))
     (ap (filled 0) (spread-tab refs 256 0 (λ b. slotFor b row) ∙ tab-as 256 0 (λ b. byslot refs (slotFor b row)) (λ b. refFor b row) (λ i l. slot-ref i row (replicate m 0))) ∙ spread-row row c)

@@ -10,7 +10,7 @@ use native.Mathlib.Omega.{arith}
 use lib.ListN.{length, take, set, replicate, length-append, length-replicate}
 use lib.Seq.{take-at}
 use borrow.Author.Tests.{le-leb, lt-leb, lt-ltb, eq-eqb, ne-eqb}
-use Rattle.lists.specs.Scan.{choose, is, atMost, atLeast, nonzero, all, first, rises}
+use Rattle.lists.specs.Scan.{choose, is, atMost, atLeast, nonzero, allPass, first, rises}
 use Rattle.lists.specs.Part.{between}
 use Rattle.lists.specs.Edit.{pushIn, pullOut, shiftIn, shiftOut, padded}
 use Rattle.lists.proofs.Tests.{both, and-both, all-zero, zeros-all}
@@ -55,7 +55,7 @@ row-rises lo (e ∷ es) c =
     (and-both (le-leb (e .0) 255 (omega (arith, c .0 .byte)))
     (ap (λ (n : ℕ). rises n (bytesOf es)) (let q : e .0 + 1 ≡ suc (e .0) = omega arith in q) ∙ row-rises (suc (e .0)) es (c .1)))
 
-pub refs-nonzero : (lo : ℕ) (row : Row) → Climbs lo row → all nonzero (refsOf row) ≡ true
+pub refs-nonzero : (lo : ℕ) (row : Row) → Climbs lo row → allPass nonzero (refsOf row) ≡ true
 refs-nonzero lo [] c = refl
 refs-nonzero lo (e ∷ es) c = and-both (lt-ltb 0 (e .1) (c .0 .some)) (refs-nonzero (suc (e .0)) es (c .1))
 
@@ -115,9 +115,9 @@ module _ (k : ℕ) (row : Row) (n : ℕ) (size : length row ≡ n) (few : n ≤ 
         ok =
             and-both (and-both (and-both
             (ap (rises 0) used-keys ∙ row-rises 0 row c)
-            (ap (all (atMost 0)) rest-keys ∙ zeros-all (k - length (bytesOf row)) 0))
-            (ap (all nonzero) used-refs ∙ refs-nonzero 0 row c))
-            (ap (all (atMost 0)) rest-refs ∙ zeros-all (k - length (refsOf row)) 0);
+            (ap (allPass (atMost 0)) rest-keys ∙ zeros-all (k - length (bytesOf row)) 0))
+            (ap (allPass nonzero) used-refs ∙ refs-nonzero 0 row c))
+            (ap (allPass (atMost 0)) rest-refs ∙ zeros-all (k - length (refsOf row)) 0);
         shows = ap₂ beside used-keys used-refs ∙ beside-row row;
       }
 
@@ -131,7 +131,7 @@ beside-columns (k ∷ ks) (r ∷ rs) h =
     (ap (λ (l : List ℕ). k ∷ l) (i .0), ap (λ (l : List ℕ). r ∷ l) (i .1))
 
 -- a part whose rest is 0 is its used part, padded
-part-padded : (l : List ℕ) (a m e k : ℕ) → a ≤ m → m ≤ e → e ≤ length l → e - a ≡ k → all (atMost 0) (between l m e) ≡ true → between l a e ≡ padded k (between l a m)
+part-padded : (l : List ℕ) (a m e k : ℕ) → a ≤ m → m ≤ e → e ≤ length l → e - a ≡ k → allPass (atMost 0) (between l m e) ≡ true → between l a e ≡ padded k (between l a m)
 part-padded l a m e k am me el ek z =
     let used = between-length l a m am (omega arith) in
     let left = between-length l m e me el in
@@ -143,9 +143,9 @@ unfolding sortedOk sortedBody
 sorted-canon k body n long few ok =
     let ks = between body 0 n in
     let rs = between body k (k + n) in
-    let a = both (rises 0 ks && all (atMost 0) (between body n k) && all nonzero rs) (all (atMost 0) (between body (k + n) (k + k))) ok in
-    let b = both (rises 0 ks && all (atMost 0) (between body n k)) (all nonzero rs) (a .0) in
-    let c = both (rises 0 ks) (all (atMost 0) (between body n k)) (b .0) in
+    let a = both (rises 0 ks && allPass (atMost 0) (between body n k) && allPass nonzero rs) (allPass (atMost 0) (between body (k + n) (k + k))) ok in
+    let b = both (rises 0 ks && allPass (atMost 0) (between body n k)) (allPass nonzero rs) (a .0) in
+    let c = both (rises 0 ks) (allPass (atMost 0) (between body n k)) (b .0) in
     let kl : length ks ≡ n = between-length body 0 n (omega arith) (omega arith) ∙ omega arith in
     let rl : length rs ≡ n = between-length body k (k + n) (omega arith) (omega arith) ∙ omega arith in
     let cols = beside-columns ks rs (kl ∙ sym rl) in

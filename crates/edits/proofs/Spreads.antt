@@ -8,7 +8,7 @@ use lib.ListN.{length, getD, take, drop, set, replicate, length-drop}
 use lib.Seq.{take-suc, getD-drop}
 use lib.Dec.{ltb}
 use borrow.Author.Tests.{lt-ltb}
-use Rattle.lists.specs.Scan.{nonzero, all, rises, atMost}
+use Rattle.lists.specs.Scan.{nonzero, allPass, rises, atMost}
 use Rattle.lists.specs.Part.{between}
 use Rattle.lists.proofs.Tests.{both, all-by, rises-at, rises-lt}
 use Rattle.lists.proofs.Parts.{between-length}
@@ -53,8 +53,8 @@ module _ (k : ℕ) (body : List ℕ) (n : ℕ) (few : n ≤ k) (long : length bo
   keys-rise : rises 0 (between body 0 n) ≡ true
   unfolding sortedOk
   keys-rise =
-      let p = both (rises 0 (between body 0 n) && all (atMost 0) (between body n k) && all nonzero (between body k (k + n))) _ ok in
-      let q = both (rises 0 (between body 0 n) && all (atMost 0) (between body n k)) _ (p .0) in
+      let p = both (rises 0 (between body 0 n) && allPass (atMost 0) (between body n k) && allPass nonzero (between body k (k + n))) _ ok in
+      let q = both (rises 0 (between body 0 n) && allPass (atMost 0) (between body n k)) _ (p .0) in
       both (rises 0 (between body 0 n)) _ (q .0) .0
 
   front-long : (m : ℕ) → m ≤ n → length (between body 0 m) ≡ m
@@ -68,7 +68,7 @@ module _ (k : ℕ) (body : List ℕ) (n : ℕ) (few : n ≤ k) (long : length bo
 
   row-under : (i : ℕ) → i < n → Under (getD body i 0) (sortedRow k body i)
   row-under i h =
-      ap (all (λ x. ltb x (getD body i 0))) (beside-bytes (between body 0 i) (between body k (k + i)) (same-long i h))
+      ap (allPass (λ x. ltb x (getD body i 0))) (beside-bytes (between body 0 i) (between body k (k + i)) (same-long i h))
       ∙ all-by (λ x. ltb x (getD body i 0)) (between body 0 i) (λ j l. lt-ltb _ _ (lower j (omega (arith, front-long i (omega arith)))))
     where
       lower : (j : ℕ) → j < i → getD (between body 0 i) j 0 < getD body i 0

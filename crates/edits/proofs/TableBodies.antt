@@ -7,7 +7,7 @@ use native.Mathlib.Omega.{arith}
 use lib.ListN.{length, getD, set, length-set}
 use lib.Dec.{eqb}
 use borrow.Author.Tests.{eq-eqb, ne-eqb, eqb-true, eqb-false, lt-ltb}
-use Rattle.lists.specs.Scan.{choose, nonzero, all}
+use Rattle.lists.specs.Scan.{choose, nonzero, allPass}
 use Rattle.lists.proofs.Tests.{and-both}
 use Rattle.records.specs.Own.{directOk}
 use Rattle.records.specs.Row.{filled, directRow, refFor, Climbs}
@@ -23,7 +23,7 @@ use Rattle.edits.proofs.RowChanges.{insert-length, remove-length, repla
 use Rattle.edits.proofs.Shown.{Direct}
 
 -- ── g of each number ──
-pub tab-all : (p : ℕ → Bool) (m b : ℕ) (g : ℕ → ℕ) → ((i : ℕ) → p (g i) ≡ true) → all p (tab m b g) ≡ true
+pub tab-all : (p : ℕ → Bool) (m b : ℕ) (g : ℕ → ℕ) → ((i : ℕ) → p (g i) ≡ true) → allPass p (tab m b g) ≡ true
 tab-all p zero b g h = refl
 tab-all p (suc m) b g h = and-both (h b) (tab-all p m (suc b) g h)
 

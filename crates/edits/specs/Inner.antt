@@ -4,7 +4,7 @@ use mathlib.Core.Path.{_≡_}
 use mathlib.Core.List.{List}
 use mathlib.Core.Bool.{true}
 use lib.ListN.{length}
-use Rattle.lists.specs.Scan.{atMost, all}
+use Rattle.lists.specs.Scan.{atMost, allPass}
 use Rattle.lists.specs.Part.{between}
 use Rattle.prefix.specs.Run.{capped}
 use Rattle.prefix.specs.declared.Prefix.{Prefix}
@@ -17,8 +17,8 @@ use Rattle.edits.specs.Rows.{Row}
 pub record PrefixFits (form : Form) (p : Prefix) : Type 0 where
   pub short : p .full .0 ≤ form .limit
   pub eight : length (p .stored) ≡ 8
-  pub bytes : all (atMost 255) (p .stored) ≡ true
-  pub rest : all (atMost 0) (between (p .stored) (capped (p .full .0)) 8) ≡ true
+  pub bytes : allPass (atMost 255) (p .stored) ≡ true
+  pub rest : allPass (atMost 0) (between (p .stored) (capped (p .full .0)) 8) ≡ true
 
 -- a record that obeys its rule, and has this prefix and row
 pub record Inner (form : Form) (kind : ℕ) (rec : List ℕ) (p : Prefix) (row : Row) : Type 0 where

@@ -3,7 +3,7 @@ ghost use mathlib.Core.Path.{_≡_};
 ghost use Prim.Native.Nat.{_≤_, _<_, _+_};
 ghost use lib.Dec.{eqb};
 ghost use lib.ListN.{length, getD, replicate};
-ghost use Rattle.lists.specs.Scan.{choose, is, first, count, nonzero};
+ghost use Rattle.lists.specs.Scan.{choose, is, first, howMany, nonzero};
 ghost use Rattle.lists.specs.Part.{between};
 ghost use Rattle.records.specs.Row.{directRow};
 ghost use Rattle.edits.specs.Change.{Needs};
@@ -88,7 +88,7 @@ fn indirect_put(body: &mut [u32], s: usize, byte: usize, reference: u32) -> usiz
 
 // Slots and references of 256 places into a body that is all 0; the slots are numbered in byte order.
 pub fn indirect_fill(body: &mut [u32], places: [u32; 256])
-    requires { ⌜ ((now body ≡ replicate 304 0) × (length places ≡ 256)) × (count nonzero places ≤ 48) ⌝ }
+    requires { ⌜ ((now body ≡ replicate 304 0) × (length places ≡ 256)) × (howMany nonzero places ≤ 48) ⌝ }
     ensures { λ _. ⌜ now (body .exit) ≡ slotBody (directRow places) ⌝ }
 {
     let mut byte: usize = 0;

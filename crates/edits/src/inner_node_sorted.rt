@@ -4,7 +4,7 @@ ghost use mathlib.Core.Bool.{true};
 ghost use Prim.Native.Nat.{_≤_, _<_, _+_};
 ghost use lib.Dec.{eqb};
 ghost use lib.ListN.{length, replicate};
-ghost use Rattle.lists.specs.Scan.{choose, is, first, count, nonzero};
+ghost use Rattle.lists.specs.Scan.{choose, is, first, howMany, nonzero};
 ghost use Rattle.lists.specs.Part.{between};
 ghost use Rattle.records.specs.Own.{sortedOk};
 ghost use Rattle.records.specs.Row.{directRow};
@@ -90,7 +90,7 @@ fn sorted_put(body: &mut [u32], k: usize, i: usize, byte: u32, reference: u32) -
 
 // Keys and references of 256 places, in byte order, into a body that is all 0.
 pub fn sorted_fill(body: &mut [u32], k: usize, places: [u32; 256])
-    requires { ⌜ ((now body ≡ replicate (k + k) 0) × (length places ≡ 256)) × (count nonzero places ≤ k) ⌝ }
+    requires { ⌜ ((now body ≡ replicate (k + k) 0) × (length places ≡ 256)) × (howMany nonzero places ≤ k) ⌝ }
     ensures { λ _. ⌜ now (body .exit) ≡ sortedBody k (directRow places) ⌝ }
 {
     let mut byte: usize = 0;

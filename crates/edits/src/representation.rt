@@ -2,7 +2,7 @@
 ghost use mathlib.Core.Path.{_≡_};
 ghost use Prim.Native.Nat.{_≤_, _<_};
 ghost use lib.ListN.{length, replicate};
-ghost use Rattle.lists.specs.Scan.{count, nonzero};
+ghost use Rattle.lists.specs.Scan.{howMany, nonzero};
 ghost use Rattle.frames.specs.Kind.{childrenOf, bodyWords};
 ghost use Rattle.frames.specs.Form.{recordWords, Stores};
 ghost use Rattle.records.specs.Words.{childCount};
@@ -109,7 +109,7 @@ pub fn spread_of(form: Form, rec: &[u32], kind: u32) -> [u32; 256]
 
 // The references of 256 places into a body that is all 0.
 fn body_fill(body: &mut [u32], kind: u32, places: [u32; 256])
-    requires { ⌜ (((1 ≤ kind) × (kind ≤ 4)) × (now body ≡ replicate (bodyWords kind) 0)) × ((length places ≡ 256) × (count nonzero places ≤ childrenOf kind)) ⌝ }
+    requires { ⌜ (((1 ≤ kind) × (kind ≤ 4)) × (now body ≡ replicate (bodyWords kind) 0)) × ((length places ≡ 256) × (howMany nonzero places ≤ childrenOf kind)) ⌝ }
     ensures { λ _. ⌜ now (body .exit) ≡ bodyOf kind (directRow places) ⌝ }
 {
     if kind <= 2 {
@@ -124,7 +124,7 @@ fn body_fill(body: &mut [u32], kind: u32, places: [u32; 256])
 
 // The words of a record of this kind with this prefix and these children, whatever stood there: a new branching, a record that has grown or shrunk.
 pub fn build(rec: &mut [u32], form: Form, kind: u32, p: Prefix, places: [u32; 256])
-    requires { ⌜ (((1 ≤ kind) × (kind ≤ 4)) × (length (now rec) ≡ recordWords form kind)) × ((Stores form × (length (p .stored) ≡ 8)) × ((length places ≡ 256) × (count nonzero places ≤ childrenOf kind))) ⌝ }
+    requires { ⌜ (((1 ≤ kind) × (kind ≤ 4)) × (length (now rec) ≡ recordWords form kind)) × ((Stores form × (length (p .stored) ≡ 8)) × ((length places ≡ 256) × (howMany nonzero places ≤ childrenOf kind))) ⌝ }
     ensures { λ _. ⌜ now (rec .exit) ≡ buildRec form kind p (directRow places) ⌝ }
 {
     let n = scan::count_nonzero(&places);

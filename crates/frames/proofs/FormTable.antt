@@ -8,7 +8,7 @@ use native.Mathlib.Omega.{arith}
 use lib.ListN.{length, getD}
 use lib.Dec.{eqb, leb, lit≤}
 use borrow.Author.Tests.{leb-true, eqb-true, eqb-false, eq-eqb, ne-eqb}
-use Rattle.lists.specs.Scan.{choose, all, atMost}
+use Rattle.lists.specs.Scan.{choose, allPass, atMost}
 use Rattle.lists.specs.Part.{between}
 use Rattle.lists.proofs.Parts.{between-length, between-at}
 use Rattle.lists.proofs.Tests.{all-at}
@@ -85,7 +85,7 @@ unfolding packOf
 pack-length form (inl e) l h = ap (λ (b : Bool). length (choose b l (packed l))) (eq-eqb _ _ e) ∙ omega arith
 pack-length form (inr e) l h = ap (λ (b : Bool). length (choose b l (packed l))) (ne-eqb (form .prefix) 8 (λ z. omega arith)) ∙ sym e
 
-eight-own : (l : List ℕ) → length l ≡ 8 → all (atMost 255) l ≡ true
+eight-own : (l : List ℕ) → length l ≡ 8 → allPass (atMost 255) l ≡ true
     → eightIn (wordOf (getD l 0 0) (getD l 1 0) (getD l 2 0) (getD l 3 0)) (wordOf (getD l 4 0) (getD l 5 0) (getD l 6 0) (getD l 7 0)) ≡ l
 eight-own l h b = ext-getD 0 (eightIn w v) l (sym h) (λ i k. at i k)
   where
@@ -110,7 +110,7 @@ eight-own l h b = ext-getD 0 (eightIn w v) l (sym h) (λ i k. at i k)
     at (suc (suc (suc (suc (suc (suc (suc (suc i)))))))) k = absurd (omega arith)
 
 -- bytes that are packed are found again
-pub unpack-pack : (form : Form) → (l : List ℕ) → length l ≡ 8 → all (atMost 255) l ≡ true → unpackOf form (packOf form l) ≡ l
+pub unpack-pack : (form : Form) → (l : List ℕ) → length l ≡ 8 → allPass (atMost 255) l ≡ true → unpackOf form (packOf form l) ≡ l
 unfolding packOf unpackOf
 unpack-pack form l h b = go (eqb (form .prefix) 8)
   where

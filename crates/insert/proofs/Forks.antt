@@ -8,7 +8,7 @@ use native.Mathlib.Omega.{arith}
 use lib.ListN.{length, getD, take, drop, length-drop}
 use lib.Seq.{drop-drop}
 use borrow.Author.Tests.{leb-true}
-use Rattle.lists.specs.Scan.{all, atMost}
+use Rattle.lists.specs.Scan.{allPass, atMost}
 use Rattle.lists.specs.Part.{between}
 use Rattle.lists.proofs.Tests.{all-at, all-take, all-drop, all-between}
 use Rattle.lists.proofs.Parts.{between-length, between-drop}
@@ -77,11 +77,11 @@ module _ {f : Frame} {words keys : List ℕ} {σ : Store Held} {links : Links} {
     cut-is : splitOf p (c + 1) t d ≡ prefixOf (drop (c + 1) (r .run))
     cut-is = ap (λ (q : Prefix). splitOf q (c + 1) t d) own-now ∙ split-run (r .run) (c + 1) t d (omega (arith, r .longer)) has
 
-    cut-fits : all (atMost 255) t ≡ true → PrefixFits (f .form) (splitOf p (c + 1) t d)
+    cut-fits : allPass (atMost 255) t ≡ true → PrefixFits (f .form) (splitOf p (c + 1) t d)
     cut-fits bytes =
         subst (PrefixFits (f .form)) (sym cut-is)
         (run-fits (f .form) (drop (c + 1) (r .run)) (omega (arith, length-drop (c + 1) (r .run), fits-now .short, full-now))
-        (all-drop (atMost 255) (c + 1) (r .run) (ap (all (atMost 255)) (sym has) ∙ all-take (atMost 255) (length (r .run)) (drop d t) (all-drop (atMost 255) d t bytes))))
+        (all-drop (atMost 255) (c + 1) (r .run) (ap (allPass (atMost 255)) (sym has) ∙ all-take (atMost 255) (length (r .run)) (drop d t) (all-drop (atMost 255) d t bytes))))
 
     cut-cell : innerCell (splitOf p (c + 1) t d .full .0) (held (splitOf p (c + 1) t d)) (r .rs) ≡ trim t d c (σ (inner-place k n))
     unfolding prefixOf
@@ -102,7 +102,7 @@ module _ {f : Frame} {words keys : List ℕ} {σ : Store Held} {links : Links} {
     whole = omega (arith, full-now k n r, run-room r, ap length et);
   }
 
-  pub cut-state : (y : Place) → PlaceRun σ y w d c → all (atMost 255) t ≡ true → State f (cutAt f y c t d words) keys (apply σ (shorten t d c y (σ y))) links root count
+  pub cut-state : (y : Place) → PlaceRun σ y w d c → allPass (atMost 255) t ≡ true → State f (cutAt f y c t d words) keys (apply σ (shorten t d c y (σ y))) links root count
   cut-state (leaf-place n) r bytes = s
   cut-state (inner-place k n) r bytes =
       subst (λ (e : Cell Held). State f (cutAt f (inner-place k n) c t d words) keys (write σ (inner-place k n) e) links root count) (cut-cell k n r)
@@ -118,7 +118,7 @@ module _ {f : Frame} {words keys : List ℕ} {σ : Store Held} {links : Links} {
 -- ── the branching ──
 module _ {f : Frame} {words keys : List ℕ} {σ : Store Held} {links : Links} {root count : ℕ} (s : State f words keys σ links root count)
     (apart : (k n b : ℕ) (y : Place) → ChildAt σ k n b y → inner-place k n ≢ y) (tag : Tag) (up : Up) (ref leaf d c : ℕ) (fits : ForkFits σ tag (upTold up) (placeAt ref) (leaf / 8) d c)
-    (run : PlaceRun σ (placeAt ref) (leaf / 8) d c) (there : ForkThere f words keys tag up ref leaf d c) (tag-bytes : all (atMost 255) tag ≡ true) (key-bytes : all (atMost 255) keys ≡ true)
+    (run : PlaceRun σ (placeAt ref) (leaf / 8) d c) (there : ForkThere f words keys tag up ref leaf d c) (tag-bytes : allPass (atMost 255) tag ≡ true) (key-bytes : allPass (atMost 255) keys ≡ true)
     (short : length tag ≤ f .form .limit) (n : ℕ) (pool : inPool f (leaf-place n) ≡ true) (j m : ℕ) (free : FreeAt f words 1 j m) where
   abbrev t : Tag
   t = tagAt f words keys leaf
@@ -140,7 +140,7 @@ module _ {f : Frame} {words keys : List ℕ} {σ : Store Held} {links : Links} {
           ap cell-tag e ∙ sym (state-leaf s (leaf / 8) v a e .1) ∙ ap (tagAt f words keys) own
       go (inner-cell i st rs) e = absurd (omega (arith, fits .inside-leaf, ap (λ (x : Cell Held). length (cell-tag x)) e))
 
-  t-bytes : all (atMost 255) t ≡ true
+  t-bytes : allPass (atMost 255) t ≡ true
   unfolding tagAt
   t-bytes =
       let a = leaf / 8 * f .form .limit in
@@ -149,7 +149,7 @@ module _ {f : Frame} {words keys : List ℕ} {σ : Store Held} {links : Links} {
   t-inside : d + c < length t
   t-inside = omega (arith, fits .inside-leaf, ap length fork-tag)
 
-  low-byte : (l : List ℕ) → all (atMost 255) l ≡ true → d + c < length l → getD l (d + c) 0 < 256
+  low-byte : (l : List ℕ) → allPass (atMost 255) l ≡ true → d + c < length l → getD l (d + c) 0 < 256
   low-byte l h i = let b = leb-true (getD l (d + c) 0) 255 (all-at (atMost 255) l h (d + c) i) in omega arith
 
   differ : getD tag (d + c) 0 ≢ getD t (d + c) 0

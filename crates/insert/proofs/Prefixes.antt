@@ -6,7 +6,7 @@ use mathlib.Core.Bool.{true}
 use native.Mathlib.Omega.{arith}
 use lib.ListN.{length, take, drop, length-drop}
 use lib.Seq.{take-all}
-use Rattle.lists.specs.Scan.{all, atMost}
+use Rattle.lists.specs.Scan.{allPass, atMost}
 use Rattle.lists.proofs.Tests.{all-take}
 use Rattle.prefix.specs.Run.{capped, eight, prefixOf, held}
 use Rattle.prefix.specs.declared.Prefix.{Prefix}
@@ -15,7 +15,7 @@ use Rattle.prefix.proofs.Runs.{run-length}
 use Rattle.frames.specs.declared.form.Form.{Form}
 use Rattle.edits.specs.Inner.{PrefixFits}
 
-pub run-fits : (form : Form) (run : List ℕ) → length run ≤ form .limit → all (atMost 255) run ≡ true → PrefixFits form (prefixOf run)
+pub run-fits : (form : Form) (run : List ℕ) → length run ≤ form .limit → allPass (atMost 255) run ≡ true → PrefixFits form (prefixOf run)
 unfolding prefixOf
 run-fits form run short bytes = record {
   short = short;
@@ -28,6 +28,6 @@ pub prefix-is : {form : Form} {p : Prefix} → PrefixFits form p → (run : List
 unfolding prefixOf
 prefix-is {form} {p} w run full h =
     let c = capped (p .full .0) in
-    let rest : all (atMost 0) (drop c (p .stored)) ≡ true = ap (all (atMost 0)) (sym (take-all (8 - c) (drop c (p .stored)) (omega (arith, length-drop c (p .stored), w .eight)))) ∙ w .rest in
+    let rest : allPass (atMost 0) (drop c (p .stored)) ≡ true = ap (allPass (atMost 0)) (sym (take-all (8 - c) (drop c (p .stored)) (omega (arith, length-drop c (p .stored), w .eight)))) ∙ w .rest in
     let stored : p .stored ≡ eight run = sym (eight-own (p .stored) c (w .eight) rest) ∙ ap eight h ∙ ap eight (sym (append-nil (take 8 run))) ∙ eight-cut [] 8 run [] (omega arith) ∙ ap eight (append-nil run) in
     ap₂ (λ (n : ℕ) (l : List ℕ). record { full = record { 0 = n }; stored = l }) full stored

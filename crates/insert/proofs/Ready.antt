@@ -7,7 +7,7 @@ use mathlib.Core.Bool.{true}
 use native.Mathlib.Omega.{arith}
 use lib.ListN.{length, getD}
 use borrow.Author.Tests.{le-leb}
-use Rattle.lists.specs.Scan.{all, atMost}
+use Rattle.lists.specs.Scan.{allPass, atMost}
 use Rattle.lists.proofs.Tests.{all-by}
 use Rattle.frames.specs.Frame.{rootWord, frame}
 use Rattle.frames.specs.Place.{placeAt, inPool}
@@ -50,7 +50,7 @@ use Rattle.insert.proofs.Runs.{PlaceRun, PointRun, point-run}
 use Rattle.insert.proofs.Intos.{add-ready, grow-ready}
 use Rattle.insert.proofs.Forks.{fork-ready}
 
-pub bytes-all : (l : List ℕ) → Bytes l → all (atMost 255) l ≡ true
+pub bytes-all : (l : List ℕ) → Bytes l → allPass (atMost 255) l ≡ true
 bytes-all l h = all-by (atMost 255) l (λ i k. le-leb (getD l i 0) 255 (omega (arith, h i)))
 
 -- ── the point of the tag in the tree ──

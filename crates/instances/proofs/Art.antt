@@ -12,7 +12,7 @@ use Rattle.art.specs.Tags.{Before, Less, Begins, exact}
 use Rattle.art.specs.Listings.{Every, Sorted}
 use Rattle.art.specs.Puts.{Apart}
 use Rattle.art.specs.Trees.{Tree, leaf, inner, child, end, contents, Good}
-use Rattle.art.specs.Drawings.{one, branch, kid, done, erase, draw}
+use Rattle.art.specs.Drawings.{one, branch, kid, done, sketch, draw}
 use Rattle.art.specs.Changes.{Plan, grow}
 use Rattle.art.specs.Deletes.{held, Sane, change, stay}
 use Rattle.art.specs.Orders.{least, greatest, from}
@@ -35,7 +35,7 @@ use Rattle.art.proofs.Trees.{sorted}
 use Rattle.art.proofs.Walks.{search-is-find, store-shows}
 use Rattle.art.proofs.Orders.{least-first, greatest-last, from-after}
 use Rattle.art.proofs.Verdicts.{judge-is}
-use Rattle.art.proofs.Drawings.{erase-is-draw}
+use Rattle.art.proofs.Drawings.{sketch-is-draw}
 use Rattle.art.proofs.Facts.{used-inner, height-bound, history}
 use Rattle.art.proofs.Changes.{grow-contents, grow-good}
 use Rattle.art.proofs.Deletes.{change-held, change-sane}
@@ -124,9 +124,9 @@ AX-free : judge-tree long-tags AX ≡ free
 unfolding opened
 AX-free = judge-is long-tags long-good AX
 
-long-draws : erase [] long-tags ≡ branch 10 (65 ∷ 66 ∷ 67 ∷ 68 ∷ 69 ∷ 70 ∷ 71 ∷ 72 ∷ []) (kid 49 (one J1 (holding 0 1)) (kid 50 (one J2 (holding 1 2)) done))
+long-draws : sketch [] long-tags ≡ branch 10 (65 ∷ 66 ∷ 67 ∷ 68 ∷ 69 ∷ 70 ∷ 71 ∷ 72 ∷ []) (kid 49 (one J1 (holding 0 1)) (kid 50 (one J2 (holding 1 2)) done))
 unfolding opened
-long-draws = erase-is-draw long-tags long-good
+long-draws = sketch-is-draw long-tags long-good
 
 two-records : 2 ≡ branchings (draw (entry J1 0 1 ∷ entry J2 1 2 ∷ entry AX 2 3 ∷ []))
 two-records = used-inner parted-tags parted-good

@@ -5,7 +5,7 @@ use mathlib.Core.List.{List, [], _∷_}
 use mathlib.Core.Bool.{true, false}
 use native.Mathlib.Omega.{arith}
 use lib.ListN.{length, getD, take}
-use Rattle.lists.specs.Scan.{nonzero, all, nth, rises}
+use Rattle.lists.specs.Scan.{nonzero, allPass, nth, rises}
 use Rattle.lists.specs.Compare.{shared, less}
 use Rattle.lists.specs.Edit.{shiftIn, shiftOut}
 use Rattle.lists.specs.Part.{between, splice}
@@ -25,7 +25,7 @@ two = 0 ∷ 7 ∷ 0 ∷ 9 ∷ 0 ∷ []
 all-pass : nonzero 67 ≡ true
 all-pass = all-at nonzero AC refl 1 (omega arith)
 
-none-fails : all nonzero A ≡ true
+none-fails : allPass nonzero A ≡ true
 none-fails = all-by nonzero A at
   where
     at : (i : ℕ) → i < 1 → nonzero (getD A i 0) ≡ true

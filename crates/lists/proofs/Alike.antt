@@ -5,7 +5,7 @@ use mathlib.Core.List.{List, [], _∷_}
 use mathlib.Core.Bool.{Bool}
 use native.Mathlib.Omega.{arith}
 use lib.ListN.{length, getD, drop}
-use Rattle.lists.specs.Scan.{choose, first, past, onward, nth, count}
+use Rattle.lists.specs.Scan.{choose, first, past, onward, nth, howMany}
 
 pub data Alike (p q : ℕ → Bool) : List ℕ → List ℕ → Type 0 where
   alike-nil : Alike p q [] []
@@ -24,7 +24,7 @@ module _ {p q : ℕ → Bool} where
   alike-drop (suc n) alike-nil = alike-nil
   alike-drop (suc n) (alike-cons e a) = alike-drop n a
 
-  pub count-alike : {l k : List ℕ} → Alike p q l k → count p l ≡ count q k
+  pub count-alike : {l k : List ℕ} → Alike p q l k → howMany p l ≡ howMany q k
   count-alike alike-nil = refl
   count-alike (alike-cons e a) = ap₂ (λ (b : Bool) (n : ℕ). choose b (suc n) n) e (count-alike a)
 

@@ -8,7 +8,7 @@ use native.Mathlib.Decide.{decLt}
 use native.Mathlib.Omega.{arith}
 use lib.ListN.{length, getD, take, drop, set, length-append, length-take, length-drop, take-append-drop, List·getD-append}
 use lib.Seq.{take-at, drop-at, drop-drop, take-take, take-add, take-append-le, take-nil, take-length, length-take-le, getD-take, getD-drop, getD-append-add, ext-getD, take-set-le, take-set-lt, drop-set-lt, drop-set-add}
-use Rattle.lists.specs.Scan.{all}
+use Rattle.lists.specs.Scan.{allPass}
 use Rattle.lists.specs.Part.{between, splice}
 use Rattle.lists.proofs.Tests.{and-both, all-append, all-take, all-drop}
 
@@ -85,7 +85,7 @@ splice-middle x m z a e p h k =
     ap (λ (w : List ℕ). w ++ (p ++ drop (e - a) (drop a (x ++ (m ++ z))))) (take-at x (m ++ z) a h)
     ∙ ap (λ (w : List ℕ). x ++ (p ++ w)) (ap (drop (e - a)) (drop-at x (m ++ z) a h) ∙ drop-at m z (e - a) k)
 
-pub splice-all : (t : ℕ → Bool) (l : List ℕ) (a e : ℕ) (p : List ℕ) → all t l ≡ true → all t p ≡ true → all t (splice l a e p) ≡ true
+pub splice-all : (t : ℕ → Bool) (l : List ℕ) (a e : ℕ) (p : List ℕ) → allPass t l ≡ true → allPass t p ≡ true → allPass t (splice l a e p) ≡ true
 unfolding splice
 splice-all t l a e p h k =
     all-append t (take a l) (p ++ drop (e - a) (drop a l))

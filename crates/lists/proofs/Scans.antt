@@ -11,7 +11,7 @@ use lib.ListN.{length, getD, take, drop, drop-of-length-le}
 use lib.Seq.{drop-cons, take-suc, take-length, length-take-le}
 use lib.Dec.{eqb, leb, ltb, eqb·suc-zero, leb·suc-zero}
 use lib.Bits.{bitOr, or-zero-l, or-add-and, and-le-r}
-use Rattle.lists.specs.Scan.{choose, atMost, all, first, past, onward, nth, count, rises}
+use Rattle.lists.specs.Scan.{choose, atMost, allPass, first, past, onward, nth, howMany, rises}
 
 -- what is left at i, its front element first
 pub step : (s : List ℕ) (i : ℕ) → i < length s → drop i s ≡ getD s i 0 ∷ drop (i + 1) s
@@ -24,7 +24,7 @@ step-back s i z h = ap (λ (n : ℕ). take n s) (let q : i ≡ suc (i - 1) = ome
 -- every element passes: `ok` says whether those before i do
 pub record All (p : ℕ → Bool) (s : List ℕ) (i : ℕ) (ok : Bool) : Type 0 where
   pub within : i ≤ length s
-  pub left : all p s ≡ ok && all p (drop i s)
+  pub left : allPass p s ≡ ok && allPass p (drop i s)
 
 pub all-start : {p : ℕ → Bool} {s : List ℕ} → All p s 0 true
 all-start = record { within = omega arith; left = refl }
@@ -32,10 +32,10 @@ all-start = record { within = omega arith; left = refl }
 module _ {p : ℕ → Bool} {s : List ℕ} {i : ℕ} {ok : Bool} (r : All p s i ok) where
   pub all-on : i < length s → All p s (i + 1) (ok && p (getD s i 0))
   all-on h =
-      record { within = omega arith; left = r .left ∙ ap (λ (l : List ℕ). ok && all p l) (step s i h) ∙ sym (and-assoc ok (p (getD s i 0)) (all p (drop (i + 1) s))) }
+      record { within = omega arith; left = r .left ∙ ap (λ (l : List ℕ). ok && allPass p l) (step s i h) ∙ sym (and-assoc ok (p (getD s i 0)) (allPass p (drop (i + 1) s))) }
 
-  pub all-end : length s ≤ i → ok ≡ all p s
-  all-end h = sym (r .left ∙ ap (λ (l : List ℕ). ok && all p l) (drop-of-length-le s h) ∙ and-true ok)
+  pub all-end : length s ≤ i → ok ≡ allPass p s
+  all-end h = sym (r .left ∙ ap (λ (l : List ℕ). ok && allPass p l) (drop-of-length-le s h) ∙ and-true ok)
 
 -- no bit is set in either of two numbers exactly where both are 0
 no-bits : (a x : ℕ) → eqb (bitOr a x) 0 ≡ eqb a 0 && leb x 0
@@ -76,7 +76,7 @@ module _ {p : ℕ → Bool} {s : List ℕ} {i : ℕ} (r : First p s i) where
 pub record Count (p : ℕ → Bool) (s : List ℕ) (i n : ℕ) : Type 0 where
   pub within : i ≤ length s
   pub few : n ≤ i
-  pub left : count p s ≡ n + count p (drop i s)
+  pub left : howMany p s ≡ n + howMany p (drop i s)
 
 pub count-start : {p : ℕ → Bool} {s : List ℕ} → Count p s 0 0
 count-start = record { within = omega arith; few = omega arith; left = omega arith }
@@ -84,17 +84,17 @@ count-start = record { within = omega arith; few = omega arith; left = omega ari
 module _ {p : ℕ → Bool} {s : List ℕ} {i n : ℕ} (r : Count p s i n) where
   pub count-on : p (getD s i 0) ≡ true → i < length s → Count p s (i + 1) (n + 1)
   count-on t h =
-      let q : count p (drop i s) ≡ suc (count p (drop (i + 1) s)) = ap (count p) (step s i h) ∙ ap (λ (b : Bool). choose b (suc (count p (drop (i + 1) s))) (count p (drop (i + 1) s))) t in
+      let q : howMany p (drop i s) ≡ suc (howMany p (drop (i + 1) s)) = ap (howMany p) (step s i h) ∙ ap (λ (b : Bool). choose b (suc (howMany p (drop (i + 1) s))) (howMany p (drop (i + 1) s))) t in
       record { within = omega arith; few = omega arith; left = omega arith }
 
   pub count-off : p (getD s i 0) ≡ false → i < length s → Count p s (i + 1) n
   count-off t h =
-      let q : count p (drop i s) ≡ count p (drop (i + 1) s) = ap (count p) (step s i h) ∙ ap (λ (b : Bool). choose b (suc (count p (drop (i + 1) s))) (count p (drop (i + 1) s))) t in
+      let q : howMany p (drop i s) ≡ howMany p (drop (i + 1) s) = ap (howMany p) (step s i h) ∙ ap (λ (b : Bool). choose b (suc (howMany p (drop (i + 1) s))) (howMany p (drop (i + 1) s))) t in
       record { within = omega arith; few = omega arith; left = omega arith }
 
-  pub count-end : length s ≤ i → n ≡ count p s
+  pub count-end : length s ≤ i → n ≡ howMany p s
   count-end h =
-      let q : count p (drop i s) ≡ 0 = ap (count p) (drop-of-length-le s h) in
+      let q : howMany p (drop i s) ≡ 0 = ap (howMany p) (drop-of-length-le s h) in
       omega arith
 
 -- ascending bytes: `ok` says whether those before i ascend, and x is the last of them

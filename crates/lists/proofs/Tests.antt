@@ -7,7 +7,7 @@ use native.Mathlib.Omega.{arith}
 use borrow.Author.Tests.{leb-true, le-leb, ne-eqb}
 use lib.ListN.{length, getD, take, drop, set, replicate}
 use lib.Dec.{eqb, leb, eqb·suc-suc}
-use Rattle.lists.specs.Scan.{choose, atMost, all, first, past, onward, nth, count, rises}
+use Rattle.lists.specs.Scan.{choose, atMost, allPass, first, past, onward, nth, howMany, rises}
 use Rattle.lists.specs.Part.{between}
 use Rattle.lists.proofs.Scans.{nth-skips, nth-counts, nth-here}
 
@@ -20,51 +20,51 @@ and-both {a} {b} e f = ap (λ (t : Bool). t && b) e ∙ f
 
 -- ── each passes ──
 module _ (p : ℕ → Bool) where
-  pub all-at : (l : List ℕ) → all p l ≡ true → (i : ℕ) → i < length l → p (getD l i 0) ≡ true
+  pub all-at : (l : List ℕ) → allPass p l ≡ true → (i : ℕ) → i < length l → p (getD l i 0) ≡ true
   all-at [] e i h = absurd (omega arith)
-  all-at (x ∷ xs) e zero h = both (p x) (all p xs) e .0
-  all-at (x ∷ xs) e (suc i) h = all-at xs (both (p x) (all p xs) e .1) i (omega arith)
+  all-at (x ∷ xs) e zero h = both (p x) (allPass p xs) e .0
+  all-at (x ∷ xs) e (suc i) h = all-at xs (both (p x) (allPass p xs) e .1) i (omega arith)
 
-  pub all-by : (l : List ℕ) → ((i : ℕ) → i < length l → p (getD l i 0) ≡ true) → all p l ≡ true
+  pub all-by : (l : List ℕ) → ((i : ℕ) → i < length l → p (getD l i 0) ≡ true) → allPass p l ≡ true
   all-by [] h = refl
   all-by (x ∷ xs) h = and-both (h 0 (omega arith)) (all-by xs (λ i k. h (suc i) (omega arith)))
 
-  pub all-append : (l k : List ℕ) → all p (l ++ k) ≡ all p l && all p k
+  pub all-append : (l k : List ℕ) → allPass p (l ++ k) ≡ allPass p l && allPass p k
   all-append [] k = refl
-  all-append (x ∷ xs) k = ap (λ (b : Bool). p x && b) (all-append xs k) ∙ sym (and-assoc (p x) (all p xs) (all p k))
+  all-append (x ∷ xs) k = ap (λ (b : Bool). p x && b) (all-append xs k) ∙ sym (and-assoc (p x) (allPass p xs) (allPass p k))
 
-  pub all-drop : (n : ℕ) (l : List ℕ) → all p l ≡ true → all p (drop n l) ≡ true
+  pub all-drop : (n : ℕ) (l : List ℕ) → allPass p l ≡ true → allPass p (drop n l) ≡ true
   all-drop zero l e = e
   all-drop (suc n) [] e = refl
-  all-drop (suc n) (x ∷ xs) e = all-drop n xs (both (p x) (all p xs) e .1)
+  all-drop (suc n) (x ∷ xs) e = all-drop n xs (both (p x) (allPass p xs) e .1)
 
-  pub all-take : (n : ℕ) (l : List ℕ) → all p l ≡ true → all p (take n l) ≡ true
+  pub all-take : (n : ℕ) (l : List ℕ) → allPass p l ≡ true → allPass p (take n l) ≡ true
   all-take zero l e = refl
   all-take (suc n) [] e = refl
-  all-take (suc n) (x ∷ xs) e = and-both (both (p x) (all p xs) e .0) (all-take n xs (both (p x) (all p xs) e .1))
+  all-take (suc n) (x ∷ xs) e = and-both (both (p x) (allPass p xs) e .0) (all-take n xs (both (p x) (allPass p xs) e .1))
 
-  pub all-replicate : (n x : ℕ) → p x ≡ true → all p (replicate n x) ≡ true
+  pub all-replicate : (n x : ℕ) → p x ≡ true → allPass p (replicate n x) ≡ true
   all-replicate zero x e = refl
   all-replicate (suc n) x e = and-both e (all-replicate n x e)
 
-  pub all-set : (l : List ℕ) (i v : ℕ) → all p l ≡ true → p v ≡ true → all p (set l i v) ≡ true
+  pub all-set : (l : List ℕ) (i v : ℕ) → allPass p l ≡ true → p v ≡ true → allPass p (set l i v) ≡ true
   all-set [] i v e f = refl
-  all-set (x ∷ xs) zero v e f = and-both f (both (p x) (all p xs) e .1)
-  all-set (x ∷ xs) (suc i) v e f = and-both (both (p x) (all p xs) e .0) (all-set xs i v (both (p x) (all p xs) e .1) f)
+  all-set (x ∷ xs) zero v e f = and-both f (both (p x) (allPass p xs) e .1)
+  all-set (x ∷ xs) (suc i) v e f = and-both (both (p x) (allPass p xs) e .0) (all-set xs i v (both (p x) (allPass p xs) e .1) f)
 
   -- one that fails is enough
-  pub all-fails : (l : List ℕ) (i : ℕ) → i < length l → p (getD l i 0) ≡ false → all p l ≡ false
+  pub all-fails : (l : List ℕ) (i : ℕ) → i < length l → p (getD l i 0) ≡ false → allPass p l ≡ false
   all-fails [] i h e = absurd (omega arith)
-  all-fails (x ∷ xs) zero h e = ap (λ (b : Bool). b && all p xs) e
+  all-fails (x ∷ xs) zero h e = ap (λ (b : Bool). b && allPass p xs) e
   all-fails (x ∷ xs) (suc i) h e = ap (λ (b : Bool). p x && b) (all-fails xs i (omega arith) e) ∙ and-false (p x)
 
-  pub all-between : (l : List ℕ) (a e : ℕ) → all p l ≡ true → all p (between l a e) ≡ true
+  pub all-between : (l : List ℕ) (a e : ℕ) → allPass p l ≡ true → allPass p (between l a e) ≡ true
   all-between l a e h = all-take (e - a) (drop a l) (all-drop a l h)
 
-pub all-zero : (l : List ℕ) → all (atMost 0) l ≡ true → l ≡ replicate (length l) 0
+pub all-zero : (l : List ℕ) → allPass (atMost 0) l ≡ true → l ≡ replicate (length l) 0
 all-zero [] e = refl
 all-zero (x ∷ xs) e =
-    let b = both (leb x 0) (all (atMost 0) xs) e in
+    let b = both (leb x 0) (allPass (atMost 0) xs) e in
     let z : x ≡ 0 = omega (arith, leb-true x 0 (b .0)) in
     ap (λ (y : ℕ). y ∷ xs) z ∙ ap (λ (l : List ℕ). 0 ∷ l) (all-zero xs (b .1))
 
@@ -74,7 +74,7 @@ zeros-at zero i = refl
 zeros-at (suc n) zero = refl
 zeros-at (suc n) (suc i) = zeros-at n i
 
-pub zeros-all : (n b : ℕ) → all (atMost b) (replicate n 0) ≡ true
+pub zeros-all : (n b : ℕ) → allPass (atMost b) (replicate n 0) ≡ true
 zeros-all n b = all-replicate (atMost b) n 0 (le-leb 0 b (omega arith))
 
 -- ── the first that passes ──
@@ -147,71 +147,71 @@ module _ (p : ℕ → Bool) where
       go t e (suc n) (suc i) ih k h = ih i (omega arith) (omega arith)
 
   -- ── how many pass ──
-  pub count-le : (l : List ℕ) → count p l ≤ length l
+  pub count-le : (l : List ℕ) → howMany p l ≤ length l
   count-le [] = omega arith
   count-le (x ∷ xs) = go (p x) (count-le xs)
     where
-      go : (t : Bool) → count p xs ≤ length xs → choose t (suc (count p xs)) (count p xs) ≤ suc (length xs)
+      go : (t : Bool) → howMany p xs ≤ length xs → choose t (suc (howMany p xs)) (howMany p xs) ≤ suc (length xs)
       go true h = omega arith
       go false h = omega arith
 
-  pub count-append : (l k : List ℕ) → count p (l ++ k) ≡ count p l + count p k
+  pub count-append : (l k : List ℕ) → howMany p (l ++ k) ≡ howMany p l + howMany p k
   count-append [] k = omega arith
   count-append (x ∷ xs) k = go (p x) (count-append xs k)
     where
-      go : (t : Bool) → count p (xs ++ k) ≡ count p xs + count p k → choose t (suc (count p (xs ++ k))) (count p (xs ++ k)) ≡ choose t (suc (count p xs)) (count p xs) + count p k
+      go : (t : Bool) → howMany p (xs ++ k) ≡ howMany p xs + howMany p k → choose t (suc (howMany p (xs ++ k))) (howMany p (xs ++ k)) ≡ choose t (suc (howMany p xs)) (howMany p xs) + howMany p k
       go true h = omega arith
       go false h = omega arith
 
-  pub count-all : (l : List ℕ) → all p l ≡ true → count p l ≡ length l
+  pub count-all : (l : List ℕ) → allPass p l ≡ true → howMany p l ≡ length l
   count-all [] e = refl
   count-all (x ∷ xs) e =
-      let b = both (p x) (all p xs) e in
-      ap (λ (t : Bool). choose t (suc (count p xs)) (count p xs)) (b .0) ∙ ap suc (count-all xs (b .1))
+      let b = both (p x) (allPass p xs) e in
+      ap (λ (t : Bool). choose t (suc (howMany p xs)) (howMany p xs)) (b .0) ∙ ap suc (count-all xs (b .1))
 
-  pub all-count : (l : List ℕ) → all p l ≡ eqb (count p l) (length l)
+  pub all-count : (l : List ℕ) → allPass p l ≡ eqb (howMany p l) (length l)
   all-count [] = refl
   all-count (x ∷ xs) = go (p x) (all-count xs) (count-le xs)
     where
-      go : (t : Bool) → all p xs ≡ eqb (count p xs) (length xs) → count p xs ≤ length xs → t && all p xs ≡ eqb (choose t (suc (count p xs)) (count p xs)) (suc (length xs))
-      go true ih h = rw (eqb·suc-suc (count p xs) (length xs)) ih
-      go false ih h = sym (ne-eqb (count p xs) (suc (length xs)) (omega arith))
+      go : (t : Bool) → allPass p xs ≡ eqb (howMany p xs) (length xs) → howMany p xs ≤ length xs → t && allPass p xs ≡ eqb (choose t (suc (howMany p xs)) (howMany p xs)) (suc (length xs))
+      go true ih h = rw (eqb·suc-suc (howMany p xs) (length xs)) ih
+      go false ih h = sym (ne-eqb (howMany p xs) (suc (length xs)) (omega arith))
 
-  pub count-none : (l : List ℕ) → ((i : ℕ) → i < length l → p (getD l i 0) ≡ false) → count p l ≡ 0
+  pub count-none : (l : List ℕ) → ((i : ℕ) → i < length l → p (getD l i 0) ≡ false) → howMany p l ≡ 0
   count-none [] h = refl
   count-none (x ∷ xs) h =
-      ap (λ (t : Bool). choose t (suc (count p xs)) (count p xs)) (h 0 (omega arith)) ∙ count-none xs (λ i k. h (suc i) (omega arith))
+      ap (λ (t : Bool). choose t (suc (howMany p xs)) (howMany p xs)) (h 0 (omega arith)) ∙ count-none xs (λ i k. h (suc i) (omega arith))
 
 -- ── the one that passes after n others: there is one exactly where more than n pass ──
 pub record Stands (p : ℕ → Bool) (n : ℕ) (l : List ℕ) (i : ℕ) : Type 0 where
   pub within : i < length l
   pub passes : p (getD l i 0) ≡ true
-  pub others : count p (take i l) ≡ n
+  pub others : howMany p (take i l) ≡ n
 
 module _ (p : ℕ → Bool) where
   stands-on : (x : ℕ) (xs : List ℕ) (n i : ℕ) → p x ≡ true → Stands p n xs i → Stands p (suc n) (x ∷ xs) (suc i)
   stands-on x xs n i e r =
-      record { within = omega arith; passes = r .passes; others = ap (λ (t : Bool). choose t (suc (count p (take i xs))) (count p (take i xs))) e ∙ ap suc (r .others) }
+      record { within = omega arith; passes = r .passes; others = ap (λ (t : Bool). choose t (suc (howMany p (take i xs))) (howMany p (take i xs))) e ∙ ap suc (r .others) }
 
   stands-off : (x : ℕ) (xs : List ℕ) (n i : ℕ) → p x ≡ false → Stands p n xs i → Stands p n (x ∷ xs) (suc i)
   stands-off x xs n i e r =
-      record { within = omega arith; passes = r .passes; others = ap (λ (t : Bool). choose t (suc (count p (take i xs))) (count p (take i xs))) e ∙ r .others }
+      record { within = omega arith; passes = r .passes; others = ap (λ (t : Bool). choose t (suc (howMany p (take i xs))) (howMany p (take i xs))) e ∙ r .others }
 
-  pub nth-found : (n : ℕ) (l : List ℕ) → n < count p l → Stands p n l (nth p n l)
+  pub nth-found : (n : ℕ) (l : List ℕ) → n < howMany p l → Stands p n l (nth p n l)
   nth-found n [] h = absurd (omega arith)
   nth-found n (x ∷ xs) h = go (p x) refl n (λ m. nth-found m xs) h
     where
-      go : (t : Bool) → p x ≡ t → (n : ℕ) → ((m : ℕ) → m < count p xs → Stands p m xs (nth p m xs)) → n < choose t (suc (count p xs)) (count p xs)
+      go : (t : Bool) → p x ≡ t → (n : ℕ) → ((m : ℕ) → m < howMany p xs → Stands p m xs (nth p m xs)) → n < choose t (suc (howMany p xs)) (howMany p xs)
           → Stands p n (x ∷ xs) (nth p n (x ∷ xs))
       go true e zero ih k = subst (Stands p zero (x ∷ xs)) (sym (nth-here p x xs e)) (record { within = omega arith; passes = e; others = refl })
       go true e (suc n) ih k = subst (Stands p (suc n) (x ∷ xs)) (sym (nth-counts p x xs n e)) (stands-on x xs n (nth p n xs) e (ih n (omega arith)))
       go false e n ih k = subst (Stands p n (x ∷ xs)) (sym (nth-skips p x xs n e)) (stands-off x xs n (nth p n xs) e (ih n k))
 
-  pub nth-none : (n : ℕ) (l : List ℕ) → count p l ≤ n → nth p n l ≡ length l
+  pub nth-none : (n : ℕ) (l : List ℕ) → howMany p l ≤ n → nth p n l ≡ length l
   nth-none n [] h = refl
   nth-none n (x ∷ xs) h = go (p x) refl n (λ m. nth-none m xs) h
     where
-      go : (t : Bool) → p x ≡ t → (n : ℕ) → ((m : ℕ) → count p xs ≤ m → nth p m xs ≡ length xs) → choose t (suc (count p xs)) (count p xs) ≤ n
+      go : (t : Bool) → p x ≡ t → (n : ℕ) → ((m : ℕ) → howMany p xs ≤ m → nth p m xs ≡ length xs) → choose t (suc (howMany p xs)) (howMany p xs) ≤ n
           → nth p n (x ∷ xs) ≡ suc (length xs)
       go true e zero ih k = absurd (omega arith)
       go true e (suc n) ih k = nth-counts p x xs n e ∙ ap suc (ih n (omega arith))

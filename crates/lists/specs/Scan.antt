@@ -26,9 +26,9 @@ abbrev pub nonzero : ℕ → Bool
 nonzero x = ltb 0 x
 
 -- each element passes
-abbrev pub all : (ℕ → Bool) → List ℕ → Bool
-all p [] = true
-all p (x ∷ xs) = p x && all p xs
+abbrev pub allPass : (ℕ → Bool) → List ℕ → Bool
+allPass p [] = true
+allPass p (x ∷ xs) = p x && allPass p xs
 
 -- the place of the first element that passes, or the length
 abbrev pub first : (ℕ → Bool) → List ℕ → ℕ
@@ -52,9 +52,9 @@ nth p zero (x ∷ xs) = choose (p x) 0 (suc (nth p zero xs))
 nth p (suc n) (x ∷ xs) = choose (p x) (suc (nth p n xs)) (suc (nth p (suc n) xs))
 
 -- how many pass
-abbrev pub count : (ℕ → Bool) → List ℕ → ℕ
-count p [] = 0
-count p (x ∷ xs) = choose (p x) (suc (count p xs)) (count p xs)
+abbrev pub howMany : (ℕ → Bool) → List ℕ → ℕ
+howMany p [] = 0
+howMany p (x ∷ xs) = choose (p x) (suc (howMany p xs)) (howMany p xs)
 
 -- strictly ascending bytes, the first of them lo or more
 abbrev pub rises : ℕ → List ℕ → Bool

@@ -2,11 +2,11 @@
 // takes several elements at a time.
 ghost use mathlib.Core.Path.{_≡_};
 ghost use lib.ListN.{getD};
-ghost use Rattle.lists.specs.Scan.{is, atMost, atLeast, nonzero, all, first, past, nth, count, rises};
+ghost use Rattle.lists.specs.Scan.{is, atMost, atLeast, nonzero, allPass, first, past, nth, howMany, rises};
 
 // Each word is at most `b`.
 pub fn all_at_most(s: &[u32], b: u32) -> bool
-    ensures { λ r. ⌜ r ≡ all (atMost b) (now (s .entry)) ⌝ }
+    ensures { λ r. ⌜ r ≡ allPass (atMost b) (now (s .entry)) ⌝ }
 {
     let mut i = 0;
     let mut ok = true;
@@ -19,7 +19,7 @@ pub fn all_at_most(s: &[u32], b: u32) -> bool
 
 // Each byte is 0: no bit is set in any.
 pub fn bytes_zero(s: &[u8]) -> bool
-    ensures { λ r. ⌜ r ≡ all (atMost 0) (now (s .entry)) ⌝ }
+    ensures { λ r. ⌜ r ≡ allPass (atMost 0) (now (s .entry)) ⌝ }
 {
     let mut i = 0;
     let mut bits: u8 = 0;
@@ -32,7 +32,7 @@ pub fn bytes_zero(s: &[u8]) -> bool
 
 // No word is 0: all of them count.
 pub fn none_zero(s: &[u32]) -> bool
-    ensures { λ r. ⌜ r ≡ all nonzero (now (s .entry)) ⌝ }
+    ensures { λ r. ⌜ r ≡ allPass nonzero (now (s .entry)) ⌝ }
 {
     count_nonzero(s) == s.len()
 }
@@ -112,7 +112,7 @@ pub fn nth_nonzero(s: &[u32], n: usize) -> usize
 
 // How many words are not 0.
 pub fn count_nonzero(s: &[u32]) -> usize
-    ensures { λ r. ⌜ r ≡ count nonzero (now (s .entry)) ⌝ }
+    ensures { λ r. ⌜ r ≡ howMany nonzero (now (s .entry)) ⌝ }
 {
     let mut i = 0;
     let mut n: usize = 0;

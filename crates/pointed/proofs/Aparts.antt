@@ -10,7 +10,7 @@ use lib.ListN.{length, take}
 use Rattle.art.specs.Tags.{Tag}
 use Rattle.art.specs.Trees.{Tree, leaf, inner, Row, end, child}
 use Rattle.art.specs.Facts.{height, row-height}
-use Rattle.art.specs.Stores.{Place, leaf-place, inner-place, place-dec, Cell, unused, leaf-cell, inner-cell, Store, empty, or-cell, root, refs, store, store-row, Used, Disjoint, Once, OnceRow}
+use Rattle.art.specs.Stores.{Place, leaf-place, inner-place, place-dec, Cell, unused, leaf-cell, inner-cell, Store, empty, or-cell, root, refs, store, store-row, Used, Separate, Once, OnceRow}
 use Rattle.art.specs.Refs.{Refs, find-ref}
 use Rattle.art.specs.Points.{ChildAt}
 use Rattle.art.proofs.Stores.{leaf-inner, or-used, write-other, or-parts, own, used-not}
@@ -114,7 +114,7 @@ module _ {A : Type 0} where
           in-row (f .there) (omega (arith, f .falls, if-neg (place-dec (inner-place k n) here) j (suc (row-height r)) (row-rank r (inner-place k n))))
 
   -- in a row: the child's tree has both, or the rest has
-  row-falls : (c : ℕ) (t : Tree A) (r : Row A) (q : Tag) → Disjoint (store t (q ++ c ∷ [])) (store-row r q) → (x : Place) (len : ℕ) (st : List ℕ) (rs : Refs) (y : Place)
+  row-falls : (c : ℕ) (t : Tree A) (r : Row A) (q : Tag) → Separate (store t (q ++ c ∷ [])) (store-row r q) → (x : Place) (len : ℕ) (st : List ℕ) (rs : Refs) (y : Place)
       → (store t (q ++ c ∷ []) x ≡ inner-cell len st rs → Falls (store t (q ++ c ∷ [])) (rank t) x y) → (store-row r q x ≡ inner-cell len st rs → Falls (store-row r q) (row-rank r) x y)
       → store-row (child c t r) q x ≡ inner-cell len st rs → Falls (store-row (child c t r) q) (row-rank (child c t r)) x y
   row-falls c t r q o x len st rs y first rest e = go (used-or-free (σ x))

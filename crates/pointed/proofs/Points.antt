@@ -9,7 +9,7 @@ use native.Mathlib.Omega.{arith}
 use borrow.Author.Tests.{leb-true}
 use lib.ListN.{length, getD, take, drop, length-append}
 use Rattle.points.proofs.Steps.{point-end}
-use Rattle.lists.specs.Scan.{all, atMost}
+use Rattle.lists.specs.Scan.{allPass, atMost}
 use Rattle.lists.proofs.Tests.{both}
 use Rattle.frames.specs.Frame.{FrameOf, rootWord}
 use Rattle.frames.specs.Place.{placeAt, recordAt}
@@ -45,10 +45,10 @@ use Rattle.pointed.proofs.Ways.{leaf-ref, inner-ref, leaf-told, after, 
 
 -- ── a tag's bytes ──
 -- tested one by one, each is below 256, and so is what is read past the end
-pub tag-bytes : (tag : List ℕ) → all (atMost 255) tag ≡ true → Bytes tag
+pub tag-bytes : (tag : List ℕ) → allPass (atMost 255) tag ≡ true → Bytes tag
 tag-bytes [] e i = omega arith
-tag-bytes (x ∷ tag) e zero = omega (arith, leb-true x 255 (both (atMost 255 x) (all (atMost 255) tag) e .0))
-tag-bytes (x ∷ tag) e (suc i) = tag-bytes tag (both (atMost 255 x) (all (atMost 255) tag) e .1) i
+tag-bytes (x ∷ tag) e zero = omega (arith, leb-true x 255 (both (atMost 255 x) (allPass (atMost 255) tag) e .0))
+tag-bytes (x ∷ tag) e (suc i) = tag-bytes tag (both (atMost 255 x) (allPass (atMost 255) tag) e .1) i
 
 -- ── the way over a block that shows a tree ──
 module _ {f : Frame} {words keys : List ℕ} (w : FrameOf f words keys) (rules : (x : Place) → Used (cellOf f words keys x) → ruleAt f words keys x ≡ true)

@@ -9,7 +9,7 @@ use borrow.Author.Tests.{le-leb, leb-true}
 use lib.ListN.{length, getD, take, drop, replicate, length-append, length-take, length-drop, take-append-drop, List·getD-append, List·getD-eq-default}
 use lib.Seq.{ext-getD, getD-take, getD-drop, getD-append-add, length-take-le, take-append-le, take-take, take-all}
 use lib.Dec.{leb}
-use Rattle.lists.specs.Scan.{all, atMost}
+use Rattle.lists.specs.Scan.{allPass, atMost}
 use Rattle.lists.proofs.Tests.{and-both, all-at, all-by, all-append, all-take, zeros-all, zeros-at}
 use Rattle.prefix.specs.Run.{capped, eight}
 
@@ -65,12 +65,12 @@ eight-cut k n l m h = go (decLt n (length l))
         ∙ ap (λ (x : List ℕ). eight (k ++ (x ++ m))) (take-append-drop n l)
 
 -- ── as the own rule of a record has them ──
-pub eight-all : (b : ℕ) (l : List ℕ) → all (atMost b) l ≡ true → all (atMost b) (eight l) ≡ true
+pub eight-all : (b : ℕ) (l : List ℕ) → allPass (atMost b) l ≡ true → allPass (atMost b) (eight l) ≡ true
 eight-all b l e =
     all-take (atMost b) 8 (l ++ replicate 8 0) (all-append (atMost b) l (replicate 8 0) ∙ and-both e (zeros-all 8 b))
 
 -- 0 after the list's own
-pub eight-zeros : (k : ℕ) (l : List ℕ) → capped (length l) ≤ k → all (atMost 0) (drop k (eight l)) ≡ true
+pub eight-zeros : (k : ℕ) (l : List ℕ) → capped (length l) ≤ k → allPass (atMost 0) (drop k (eight l)) ≡ true
 eight-zeros k l h = all-by (atMost 0) (drop k (eight l)) zero-at
   where
     zero-at : (i : ℕ) → i < length (drop k (eight l)) → leb (getD (drop k (eight l)) i 0) 0 ≡ true
@@ -80,7 +80,7 @@ eight-zeros k l h = all-by (atMost 0) (drop k (eight l)) zero-at
         le-leb (getD (drop k (eight l)) i 0) 0 (omega arith)
 
 -- and eight with 0 from n on are the eight of their first n
-pub eight-own : (s : List ℕ) (n : ℕ) → length s ≡ 8 → all (atMost 0) (drop n s) ≡ true → eight (take n s) ≡ s
+pub eight-own : (s : List ℕ) (n : ℕ) → length s ≡ 8 → allPass (atMost 0) (drop n s) ≡ true → eight (take n s) ≡ s
 eight-own s n long e =
     ext-getD 0 (eight (take n s)) s (eight-length (take n s) ∙ sym long)
     (λ i h. let q : i < 8 = omega (arith, eight-length (take n s)) in eight-at (take n s) i q ∙ go i q (decLt i n))

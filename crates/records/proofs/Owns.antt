@@ -7,7 +7,7 @@ use native.Mathlib.Omega.{arith}
 use lib.ListN.{length, getD}
 use lib.Dec.{eqb, leb}
 use borrow.Author.Tests.{le-leb, lt-leb, eq-eqb, ne-eqb, leb-true, eqb-true}
-use Rattle.lists.specs.Scan.{all, atMost, nonzero, count}
+use Rattle.lists.specs.Scan.{allPass, atMost, nonzero, howMany}
 use Rattle.lists.specs.Part.{between}
 use Rattle.lists.proofs.Tests.{both}
 use Rattle.lists.proofs.Parts.{between-length}
@@ -23,14 +23,14 @@ pub record HeadRule (form : Form) (kind : ℕ) (rec : List ℕ) : Type 0 where
   pub kind-word : getD rec 0 0 ≡ kind
   pub two : 2 ≤ getD rec 1 0
   pub short : getD rec 2 0 ≤ form .limit
-  pub bytes : all (atMost 255) (storedOf form rec) ≡ true
-  pub rest : all (atMost 0) (between (storedOf form rec) (capped (getD rec 2 0)) 8) ≡ true
+  pub bytes : allPass (atMost 255) (storedOf form rec) ≡ true
+  pub rest : allPass (atMost 0) (between (storedOf form rec) (capped (getD rec 2 0)) 8) ≡ true
 
 pub head-rule : (form : Form) (kind : ℕ) (rec : List ℕ) → headOk form kind rec ≡ true → HeadRule form kind rec
 unfolding headOk
 head-rule form kind rec e =
     let p =
-    both5 (eqb (getD rec 0 0) kind) (leb 2 (getD rec 1 0)) (leb (getD rec 2 0) (form .limit)) (all (atMost 255) (storedOf form rec)) (all (atMost 0) (between (storedOf form rec) (capped (getD rec 2 0)) 8)) e in
+    both5 (eqb (getD rec 0 0) kind) (leb 2 (getD rec 1 0)) (leb (getD rec 2 0) (form .limit)) (allPass (atMost 255) (storedOf form rec)) (allPass (atMost 0) (between (storedOf form rec) (capped (getD rec 2 0)) 8)) e in
     record { kind-word = eqb-true _ _ (p .0); two = leb-true _ _ (p .1); short = leb-true _ _ (p .2); bytes = p .3; rest = p .4 }
 
 pub record InnerRule (form : Form) (kind : ℕ) (rec : List ℕ) : Type 0 where
@@ -59,15 +59,15 @@ module _ {kind : ℕ} {body : List ℕ} {n : ℕ} (w : BodyFits kind body n) whe
   unfolding bodyOk
   sorted-fits h = (w .long ∙ sorted-words kind (w .low) h, simp (le-leb kind 2 h) at (w .ok))
 
-  pub indirect-fits : kind ≡ 3 → (length body ≡ 304) × SlotsFit body × (count nonzero (between body 256 304) ≡ n)
+  pub indirect-fits : kind ≡ 3 → (length body ≡ 304) × SlotsFit body × (howMany nonzero (between body 256 304) ≡ n)
   unfolding bodyOk indirectOk
   indirect-fits e =
       let ok : indirectOk body n ≡ true = simp (lt-leb kind 2 (omega arith), eq-eqb kind 3 e) at (w .ok) in
-      let p = both (all (atMost 48) (between body 0 256) && eqb (count nonzero (between body 256 304)) n) _ ok in
-      let q = both (all (atMost 48) (between body 0 256)) _ (p .0) in
+      let p = both (allPass (atMost 48) (between body 0 256) && eqb (howMany nonzero (between body 256 304)) n) _ ok in
+      let q = both (allPass (atMost 48) (between body 0 256)) _ (p .0) in
       (w .long ∙ kind-3 kind e, record { low = q .0; names = p .1 }, eqb-true _ _ (q .1))
 
-  pub direct-fits : 2 < kind → (kind ≡ 3 → ⊥) → (length body ≡ 256) × (count nonzero body ≡ n)
+  pub direct-fits : 2 < kind → (kind ≡ 3 → ⊥) → (length body ≡ 256) × (howMany nonzero body ≡ n)
   unfolding bodyOk directOk
   direct-fits h z =
       let ok : directOk body n ≡ true = simp (lt-leb kind 2 h, ne-eqb kind 3 z) at (w .ok) in
@@ -76,11 +76,11 @@ module _ {kind : ℕ} {body : List ℕ} {n : ℕ} (w : BodyFits kind body n) whe
 pub record LeafRule (limit : ℕ) (rec key : List ℕ) : Type 0 where
   pub short : getD rec 1 0 ≤ limit
   pub used : getD rec 0 0 ≡ 1
-  pub rest : all (atMost 0) (between key (getD rec 1 0) limit) ≡ true
+  pub rest : allPass (atMost 0) (between key (getD rec 1 0) limit) ≡ true
 
 pub leaf-rule : (limit : ℕ) (rec key : List ℕ) → leafOk limit rec key ≡ true → LeafRule limit rec key
 unfolding leafOk
 leaf-rule limit rec key e =
     let p = both (leb (getD rec 1 0) limit) _ e in
-    let q = both (eqb (getD rec 0 0) 1) (all (atMost 0) (between key (getD rec 1 0) limit)) (p .1) in
+    let q = both (eqb (getD rec 0 0) 1) (allPass (atMost 0) (between key (getD rec 1 0) limit)) (p .1) in
     record { short = leb-true _ _ (p .0); used = eqb-true _ _ (q .0); rest = q .1 }

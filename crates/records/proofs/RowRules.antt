@@ -8,7 +8,7 @@ use native.Mathlib.Omega.{arith}
 use lib.ListN.{length, getD}
 use lib.Dec.{eqb, leb, ltb, leb·suc-suc}
 use borrow.Author.Tests.{eq-eqb, ne-eqb, lt-ltb, eqb-true, eqb-false, ltb-true, ltb-false, leb-true, leb-false}
-use Rattle.lists.specs.Scan.{choose, is, atMost, nonzero, all, first, count, rises}
+use Rattle.lists.specs.Scan.{choose, is, atMost, nonzero, allPass, first, howMany, rises}
 use Rattle.lists.specs.Part.{between}
 use Rattle.lists.proofs.Tests.{both, all-at}
 use Rattle.lists.proofs.Parts.{between-length, between-at}
@@ -26,7 +26,7 @@ pub climbs-lower : (a b : ℕ) (es : List (ℕ × ℕ)) → a ≤ b → Climbs b
 climbs-lower a b [] h c = tt
 climbs-lower a b (e ∷ es) h c = (record { low = omega (arith, c .0 .low); byte = c .0 .byte; some = c .0 .some }, c .1)
 
-beside-climbs : (lo : ℕ) (ks rs : List ℕ) → rises lo ks ≡ true → all nonzero rs ≡ true → Climbs lo (beside ks rs)
+beside-climbs : (lo : ℕ) (ks rs : List ℕ) → rises lo ks ≡ true → allPass nonzero rs ≡ true → Climbs lo (beside ks rs)
 beside-climbs lo [] rs h k = tt
 beside-climbs lo (x ∷ ks) [] h k = tt
 beside-climbs lo (x ∷ ks) (r ∷ rs) h k =
@@ -45,13 +45,13 @@ filled-climbs b (r ∷ rs) h = go (nonzero r) refl (filled-climbs (suc b) rs (om
     go true e ih = subst (Climbs b) (sym (filled-holds b r rs e)) (record { low = omega arith; byte = omega arith; some = ltb-true 0 r e }, ih)
     go false e ih = subst (Climbs b) (sym (filled-skips b r rs e)) (climbs-lower b (suc b) (filled (suc b) rs) (omega arith) ih)
 
-pub filled-length : (b : ℕ) (l : List ℕ) → length (filled b l) ≡ count nonzero l
+pub filled-length : (b : ℕ) (l : List ℕ) → length (filled b l) ≡ howMany nonzero l
 filled-length b [] = refl
 filled-length b (r ∷ rs) = go (nonzero r) refl (filled-length (suc b) rs)
   where
-    go : (t : Bool) → nonzero r ≡ t → length (filled (suc b) rs) ≡ count nonzero rs → length (filled b (r ∷ rs)) ≡ count nonzero (r ∷ rs)
-    go true e ih = ap length (filled-holds b r rs e) ∙ ap suc ih ∙ ap (λ (t : Bool). choose t (suc (count nonzero rs)) (count nonzero rs)) (sym e)
-    go false e ih = ap length (filled-skips b r rs e) ∙ ih ∙ ap (λ (t : Bool). choose t (suc (count nonzero rs)) (count nonzero rs)) (sym e)
+    go : (t : Bool) → nonzero r ≡ t → length (filled (suc b) rs) ≡ howMany nonzero rs → length (filled b (r ∷ rs)) ≡ howMany nonzero (r ∷ rs)
+    go true e ih = ap length (filled-holds b r rs e) ∙ ap suc ih ∙ ap (λ (t : Bool). choose t (suc (howMany nonzero rs)) (howMany nonzero rs)) (sym e)
+    go false e ih = ap length (filled-skips b r rs e) ∙ ih ∙ ap (λ (t : Bool). choose t (suc (howMany nonzero rs)) (howMany nonzero rs)) (sym e)
 
 -- ── the child for a byte, looked up in the row ──
 beside-for : (b : ℕ) (ks rs : List ℕ) → length ks ≡ length rs
@@ -107,8 +107,8 @@ filled-for a (suc i) (r ∷ rs) h =
 sorted-row : (k : ℕ) (body : List ℕ) (n : ℕ) → length body ≡ k + k → n ≤ k → sortedOk k body n ≡ true → RowRule (sortedRow k body n) (sortedChild k body n) n
 unfolding sortedOk
 sorted-row k body n long few ok =
-    let a = both (rises 0 (between body 0 n) && all (atMost 0) (between body n k) && all nonzero (between body k (k + n))) _ ok in
-    let b = both (rises 0 (between body 0 n) && all (atMost 0) (between body n k)) _ (a .0) in
+    let a = both (rises 0 (between body 0 n) && allPass (atMost 0) (between body n k) && allPass nonzero (between body k (k + n))) _ ok in
+    let b = both (rises 0 (between body 0 n) && allPass (atMost 0) (between body n k)) _ (a .0) in
     let c = both (rises 0 (between body 0 n)) _ (b .0) in
     record {
       size = sorted-length k body n long few;
@@ -117,7 +117,7 @@ sorted-row k body n long few ok =
     }
 
 -- kinds 3 and 4, by the list of what each byte has
-filled-row : {body s l : List ℕ} {ref : ℕ → ℕ} (n : ℕ) → Scanned body s l ref → count nonzero l ≡ n → RowRule (filled 0 l) ref n
+filled-row : {body s l : List ℕ} {ref : ℕ → ℕ} (n : ℕ) → Scanned body s l ref → howMany nonzero l ≡ n → RowRule (filled 0 l) ref n
 filled-row {body} {s} {l} {ref} n w many =
     record {
       size = filled-length 0 l ∙ many;
@@ -125,7 +125,7 @@ filled-row {body} {s} {l} {ref} n w many =
       child-for = λ b h. w .each b h ∙ sym (ap (λ (k : ℕ). refFor k (filled 0 l)) (let q : b ≡ 0 + b = omega arith in q) ∙ filled-for 0 b l (omega (arith, w .long)));
     }
 
-indirect-row : (body : List ℕ) (n : ℕ) → length body ≡ 304 → SlotsFit body → count nonzero (between body 256 304) ≡ n → RowRule (indirectRow body) (indirectChild body) n
+indirect-row : (body : List ℕ) (n : ℕ) → length body ≡ 304 → SlotsFit body → howMany nonzero (between body 256 304) ≡ n → RowRule (indirectRow body) (indirectChild body) n
 indirect-row body n long fit many =
     let w = indirect-scanned body long fit in
     let slots = between body 0 256 in
@@ -134,7 +134,7 @@ indirect-row body n long fit many =
     filled-row n w
     (sym (count-alike (w .alike))
     ∙ count-alike (alike-by nonzero (within 0 48) slots slots refl (λ i l. small-within 48 (getD slots i 0) (leb-true _ _ (all-at (atMost 48) slots (fit .low) i l))))
-    ∙ ap (λ (m : ℕ). count (within 0 m) slots) (sym all48)
+    ∙ ap (λ (m : ℕ). howMany (within 0 m) slots) (sym all48)
     ∙ named-count slots 0 refs (fit .names)
     ∙ many)
 

@@ -8,7 +8,7 @@ use lib.ListN.{length, getD, take, drop, length-drop, List·getD-eq-default}
 use lib.Seq.{take-length}
 use lib.Dec.{leb, ltb, leb·suc-suc}
 use borrow.Author.Tests.{eq-eqb, ne-eqb, lt-ltb, le-ltb, le-leb, lt-leb, ltb-true, ltb-false, leb-true}
-use Rattle.lists.specs.Scan.{choose, atMost, atLeast, nonzero, all, first, past, onward, nth}
+use Rattle.lists.specs.Scan.{choose, atMost, atLeast, nonzero, allPass, first, past, onward, nth}
 use Rattle.lists.specs.Part.{between}
 use Rattle.lists.proofs.Scans.{nth-skips, nth-counts, nth-here}
 use Rattle.lists.proofs.Tests.{all-at, first-le, past-le}
@@ -261,7 +261,7 @@ spread-at refs (s ∷ ss) zero = refl
 spread-at refs (s ∷ ss) (suc i) = spread-at refs ss i
 
 -- the slot numbers that are not 0 are those that name a filled place
-pub spread-alike : (slots refs : List ℕ) → named slots 0 refs ≡ true → all (atMost (length refs)) slots ≡ true → Alike nonzero nonzero slots (spread refs slots)
+pub spread-alike : (slots refs : List ℕ) → named slots 0 refs ≡ true → allPass (atMost (length refs)) slots ≡ true → Alike nonzero nonzero slots (spread refs slots)
 spread-alike slots refs h k =
     alike-by nonzero nonzero slots (spread refs slots) (sym (spread-length refs slots))
     (λ i l. sym (ap nonzero (spread-at refs slots i) ∙ slot-filled slots refs h i l (leb-true _ _ (all-at (atMost (length refs)) slots k i l))))
@@ -276,7 +276,7 @@ indirect-scanned body long w =
       long = spread-length (between body 256 304) (between body 0 256) ∙ slots;
       each = λ i h. sym (spread-at (between body 256 304) (between body 0 256) i
           ∙ ap (byslot (between body 256 304)) (between-at body 0 256 i h ∙ ap (λ (j : ℕ). getD body j 0) (let q : 0 + i ≡ i = omega arith in q)));
-      alike = spread-alike (between body 0 256) (between body 256 304) (w .names) (ap (λ (n : ℕ). all (atMost n) (between body 0 256)) refs ∙ w .low);
+      alike = spread-alike (between body 0 256) (between body 256 304) (w .names) (ap (λ (n : ℕ). allPass (atMost n) (between body 0 256)) refs ∙ w .low);
     }
   where
     slots : length (between body 0 256) ≡ 256

@@ -10,7 +10,7 @@ use lib.ListN.{length, getD, drop, drop-of-length-le, set, replicate, getD-repli
 use lib.Seq.{getD-set-same, getD-set-other}
 use lib.Dec.{eqb, leb, ltb}
 use borrow.Author.Tests.{eq-eqb, ne-eqb, eqb-true, eqb-false, lt-ltb, ltb-true, ltb-false, le-leb, leb-true, leb-false}
-use Rattle.lists.specs.Scan.{choose, is, nonzero, count}
+use Rattle.lists.specs.Scan.{choose, is, nonzero, howMany}
 use Rattle.lists.proofs.Scans.{step, Count, count-start, count-on, count-off, count-end}
 use Rattle.lists.proofs.Tests.{both, count-none}
 use Rattle.records.specs.Own.{named, Tallied, byslot}
@@ -24,10 +24,10 @@ pub named-start : {slots refs : List ℕ} → Named slots refs 0
 named-start = record { within = omega arith; left = refl }
 
 module _ {slots refs : List ℕ} {j : ℕ} (r : Named slots refs j) where
-  pub named-on : eqb (count (is (j + 1)) slots) (choose (nonzero (getD refs j 0)) 1 0) ≡ true → j < length refs → Named slots refs (j + 1)
+  pub named-on : eqb (howMany (is (j + 1)) slots) (choose (nonzero (getD refs j 0)) 1 0) ≡ true → j < length refs → Named slots refs (j + 1)
   named-on t h = record { within = omega arith; left = r .left ∙ ap (named slots j) (step refs j h) ∙ ap (λ (b : Bool). b && named slots (j + 1) (drop (j + 1) refs)) t }
 
-  pub named-off : eqb (count (is (j + 1)) slots) (choose (nonzero (getD refs j 0)) 1 0) ≡ false → j < length refs → false ≡ named slots 0 refs
+  pub named-off : eqb (howMany (is (j + 1)) slots) (choose (nonzero (getD refs j 0)) 1 0) ≡ false → j < length refs → false ≡ named slots 0 refs
   named-off t h = sym (r .left ∙ ap (named slots j) (step refs j h) ∙ ap (λ (b : Bool). b && named slots (j + 1) (drop (j + 1) refs)) t)
 
   pub named-end : length refs ≤ j → true ≡ named slots 0 refs
@@ -75,19 +75,19 @@ tally-end r h = record { each = λ x l. count-end (r .each x l) h }
 
 -- the test of place j by the counts
 pub tallied-test : {slots t : List ℕ} → Tallied slots t → (j next r f : ℕ) → next ≡ j + 1 → j < 48 → f ≡ choose (nonzero r) 1 0
-    → eqb (count (is (j + 1)) slots) (choose (nonzero r) 1 0) ≡ eqb (getD t next 0) f
+    → eqb (howMany (is (j + 1)) slots) (choose (nonzero r) 1 0) ≡ eqb (getD t next 0) f
 tallied-test {slots} {t} w j next r f e h q =
     ap (λ (k : ℕ). eqb k (choose (nonzero r) 1 0)) (sym (w .each (j + 1) (omega arith)) ∙ ap (λ (k : ℕ). getD t k 0) (sym e)) ∙ ap (eqb (getD t next 0)) (sym q)
 
 -- ── what the rule says ──
 -- a test that is one of two others that exclude each other
 module _ (p q r : ℕ → Bool) where
-  count-split : (l : List ℕ) → ((x : ℕ) → choose (p x) 1 0 ≡ choose (q x) 1 0 + choose (r x) 1 0) → count p l ≡ count q l + count r l
+  count-split : (l : List ℕ) → ((x : ℕ) → choose (p x) 1 0 ≡ choose (q x) 1 0 + choose (r x) 1 0) → howMany p l ≡ howMany q l + howMany r l
   count-split [] h = refl
   count-split (x ∷ xs) h = go (p x) (q x) (r x) (h x) (count-split xs h)
     where
-      go : (a b c : Bool) → choose a 1 0 ≡ choose b 1 0 + choose c 1 0 → count p xs ≡ count q xs + count r xs
-          → choose a (suc (count p xs)) (count p xs) ≡ choose b (suc (count q xs)) (count q xs) + choose c (suc (count r xs)) (count r xs)
+      go : (a b c : Bool) → choose a 1 0 ≡ choose b 1 0 + choose c 1 0 → howMany p xs ≡ howMany q xs + howMany r xs
+          → choose a (suc (howMany p xs)) (howMany p xs) ≡ choose b (suc (howMany q xs)) (howMany q xs) + choose c (suc (howMany r xs)) (howMany r xs)
       go true true true e ih = absurd (omega arith)
       go true true false e ih = omega arith
       go true false true e ih = omega arith
@@ -97,12 +97,12 @@ module _ (p q r : ℕ → Bool) where
       go false false true e ih = absurd (omega arith)
       go false false false e ih = ih
 
-pub count-has : (p : ℕ → Bool) (l : List ℕ) (i : ℕ) → i < length l → p (getD l i 0) ≡ true → 0 < count p l
+pub count-has : (p : ℕ → Bool) (l : List ℕ) (i : ℕ) → i < length l → p (getD l i 0) ≡ true → 0 < howMany p l
 count-has p [] i h e = absurd (omega arith)
-count-has p (x ∷ xs) zero h e = subst (λ (b : Bool). 0 < choose b (suc (count p xs)) (count p xs)) (sym e) (omega arith)
+count-has p (x ∷ xs) zero h e = subst (λ (b : Bool). 0 < choose b (suc (howMany p xs)) (howMany p xs)) (sym e) (omega arith)
 count-has p (x ∷ xs) (suc i) h e = go (p x) (count-has p xs i (omega arith) e)
   where
-    go : (b : Bool) → 0 < count p xs → 0 < choose b (suc (count p xs)) (count p xs)
+    go : (b : Bool) → 0 < howMany p xs → 0 < choose b (suc (howMany p xs)) (howMany p xs)
     go true ih = omega arith
     go false ih = ih
 
@@ -135,24 +135,24 @@ within-none j x = go (ltb j x) refl (leb x (j + 0)) refl
     go true ea false eb = refl
     go false ea b eb = refl
 
-pub named-count : (slots : List ℕ) (j : ℕ) (rs : List ℕ) → named slots j rs ≡ true → count (within j (length rs)) slots ≡ count nonzero rs
+pub named-count : (slots : List ℕ) (j : ℕ) (rs : List ℕ) → named slots j rs ≡ true → howMany (within j (length rs)) slots ≡ howMany nonzero rs
 named-count slots j [] h = count-none (within j 0) slots (λ i l. within-none j (getD slots i 0))
 named-count slots j (r ∷ rs) h =
-    let p = both (eqb (count (is (j + 1)) slots) (choose (nonzero r) 1 0)) _ h in
+    let p = both (eqb (howMany (is (j + 1)) slots) (choose (nonzero r) 1 0)) _ h in
     go (nonzero r) (eqb-true _ _ (p .0)) (count-split (within j (suc (length rs))) (is (j + 1)) (within (j + 1) (length rs)) slots (within-split j (length rs))) (named-count slots (j + 1) rs (p .1))
   where
-    go : (b : Bool) → count (is (j + 1)) slots ≡ choose b 1 0 → count (within j (suc (length rs))) slots ≡ count (is (j + 1)) slots + count (within (j + 1) (length rs)) slots
-        → count (within (j + 1) (length rs)) slots ≡ count nonzero rs → count (within j (suc (length rs))) slots ≡ choose b (suc (count nonzero rs)) (count nonzero rs)
+    go : (b : Bool) → howMany (is (j + 1)) slots ≡ choose b 1 0 → howMany (within j (suc (length rs))) slots ≡ howMany (is (j + 1)) slots + howMany (within (j + 1) (length rs)) slots
+        → howMany (within (j + 1) (length rs)) slots ≡ howMany nonzero rs → howMany (within j (suc (length rs))) slots ≡ choose b (suc (howMany nonzero rs)) (howMany nonzero rs)
     go true a b c = omega arith
     go false a b c = omega arith
 
-pub named-get : (slots : List ℕ) (j : ℕ) (rs : List ℕ) → named slots j rs ≡ true → (i : ℕ) → i < length rs → count (is (j + i + 1)) slots ≡ choose (nonzero (getD rs i 0)) 1 0
+pub named-get : (slots : List ℕ) (j : ℕ) (rs : List ℕ) → named slots j rs ≡ true → (i : ℕ) → i < length rs → howMany (is (j + i + 1)) slots ≡ choose (nonzero (getD rs i 0)) 1 0
 named-get slots j [] h i l = absurd (omega arith)
 named-get slots j (r ∷ rs) h zero l =
-    ap (λ (k : ℕ). count (is k) slots) (let e : j + 0 + 1 ≡ j + 1 = omega arith in e) ∙ eqb-true _ _ (both (eqb (count (is (j + 1)) slots) (choose (nonzero r) 1 0)) _ h .0)
+    ap (λ (k : ℕ). howMany (is k) slots) (let e : j + 0 + 1 ≡ j + 1 = omega arith in e) ∙ eqb-true _ _ (both (eqb (howMany (is (j + 1)) slots) (choose (nonzero r) 1 0)) _ h .0)
 named-get slots j (r ∷ rs) h (suc i) l =
-    ap (λ (k : ℕ). count (is k) slots) (let e : j + suc i + 1 ≡ j + 1 + i + 1 = omega arith in e)
-    ∙ named-get slots (j + 1) rs (both (eqb (count (is (j + 1)) slots) (choose (nonzero r) 1 0)) _ h .1) i (omega arith)
+    ap (λ (k : ℕ). howMany (is k) slots) (let e : j + suc i + 1 ≡ j + 1 + i + 1 = omega arith in e)
+    ∙ named-get slots (j + 1) rs (both (eqb (howMany (is (j + 1)) slots) (choose (nonzero r) 1 0)) _ h .1) i (omega arith)
 
 pub slot-filled : (slots refs : List ℕ) → named slots 0 refs ≡ true → (i : ℕ) → i < length slots → getD slots i 0 ≤ length refs
     → nonzero (byslot refs (getD slots i 0)) ≡ nonzero (getD slots i 0)
@@ -169,9 +169,9 @@ slot-filled slots refs h i l k = go (eqb (getD slots i 0) 0) refl
     go true e = ap nonzero (sym (eqb-true s 0 e))
     go false e =
         let z : s ≡ 0 → ⊥ = eqb-false s 0 e in
-        let some : 0 < count (is s) slots = count-has (is s) slots i l (eq-eqb s s refl) in
-        let same : count (is s) slots ≡ choose (nonzero (getD refs (s - 1) 0)) 1 0 =
-        ap (λ (k : ℕ). count (is k) slots) (let q : s ≡ 0 + (s - 1) + 1 = omega arith in q) ∙ named-get slots 0 refs h (s - 1) (omega arith) in
+        let some : 0 < howMany (is s) slots = count-has (is s) slots i l (eq-eqb s s refl) in
+        let same : howMany (is s) slots ≡ choose (nonzero (getD refs (s - 1) 0)) 1 0 =
+        ap (λ (k : ℕ). howMany (is k) slots) (let q : s ≡ 0 + (s - 1) + 1 = omega arith in q) ∙ named-get slots 0 refs h (s - 1) (omega arith) in
         full (nonzero (getD refs (s - 1) 0)) refl (omega arith) ∙ sym (lt-ltb 0 s (omega arith))
 
 pub small-within : (m s : ℕ) → s ≤ m → nonzero s ≡ within 0 m s

@@ -5,7 +5,7 @@ use mathlib.Core.List.{List, [], _∷_}
 use mathlib.Core.Bool.{Bool, true, _&&_}
 use lib.ListN.{length, getD}
 use lib.Dec.{eqb, leb, ltb}
-use Rattle.lists.specs.Scan.{choose, is, atMost, nonzero, all, first, count, rises}
+use Rattle.lists.specs.Scan.{choose, is, atMost, nonzero, allPass, first, howMany, rises}
 use Rattle.prefix.specs.Run.{capped}
 use Rattle.prefix.specs.declared.Prefix.{Prefix}
 use Rattle.lists.specs.Part.{between}
@@ -24,41 +24,41 @@ headOk form kind rec =
     eqb (usedAs rec) kind
     && leb 2 (childCount rec)
     && leb (fullLength rec) (form .limit)
-    && all (atMost 255) (storedOf form rec)
-    && all (atMost 0) (between (storedOf form rec) (capped (fullLength rec)) 8)
+    && allPass (atMost 255) (storedOf form rec)
+    && allPass (atMost 0) (between (storedOf form rec) (capped (fullLength rec)) 8)
 
 -- kinds 1 and 2, with k places and n children: ascending key bytes, then references, none 0; the rest 0
 unfoldable pub sortedOk : ℕ → List ℕ → ℕ → Bool
 sortedOk k body n =
     rises 0 (between body 0 n)
-    && all (atMost 0) (between body n k)
-    && all nonzero (between body k (k + n))
-    && all (atMost 0) (between body (k + n) (k + k))
+    && allPass (atMost 0) (between body n k)
+    && allPass nonzero (between body k (k + n))
+    && allPass (atMost 0) (between body (k + n) (k + k))
 
 -- the places from number j on: a filled one is named by one slot number, an empty one by none
 abbrev pub named : List ℕ → ℕ → List ℕ → Bool
 named slots j [] = true
-named slots j (r ∷ rs) = eqb (count (is (j + 1)) slots) (choose (nonzero r) 1 0) && named slots (j + 1) rs
+named slots j (r ∷ rs) = eqb (howMany (is (j + 1)) slots) (choose (nonzero r) 1 0) && named slots (j + 1) rs
 
 -- a list of counts: how many slots name each place, at the place's number
 pub record Tallied (slots t : List ℕ) : Type 0 where
-  pub each : (x : ℕ) → x < 49 → getD t x 0 ≡ count (is x) slots
+  pub each : (x : ℕ) → x < 49 → getD t x 0 ≡ howMany (is x) slots
 
 -- kind 3 with n children: slot numbers up to 48, n of the 48 places filled, each filled place named by one slot number and an empty one by none
 unfoldable pub indirectOk : List ℕ → ℕ → Bool
 indirectOk body n =
-    all (atMost 48) (between body 0 256)
-    && eqb (count nonzero (between body 256 304)) n
+    allPass (atMost 48) (between body 0 256)
+    && eqb (howMany nonzero (between body 256 304)) n
     && named (between body 0 256) 0 (between body 256 304)
 
 -- what of it settles the row: the slot numbers are at most 48 and name just the filled places
 pub record SlotsFit (body : List ℕ) : Type 0 where
-  pub low : all (atMost 48) (between body 0 256) ≡ true
+  pub low : allPass (atMost 48) (between body 0 256) ≡ true
   pub names : named (between body 0 256) 0 (between body 256 304) ≡ true
 
 -- kind 4 with n children: n of the references are not 0
 unfoldable pub directOk : List ℕ → ℕ → Bool
-directOk body n = eqb (count nonzero body) n
+directOk body n = eqb (howMany nonzero body) n
 
 -- a body's part of the rule, by the kind
 unfoldable pub bodyOk : ℕ → List ℕ → ℕ → Bool
@@ -117,7 +117,7 @@ childAt form kind rec byte = childOf kind (bodyPart form kind rec) (childCount r
 -- a leaf's own rule: in use, length at most the limit, its later key bytes 0
 unfoldable pub leafOk : ℕ → List ℕ → List ℕ → Bool
 leafOk limit rec key =
-    leb (tagLength rec) limit && (eqb (usedAs rec) 1 && all (atMost 0) (between key (tagLength rec) limit))
+    leb (tagLength rec) limit && (eqb (usedAs rec) 1 && allPass (atMost 0) (between key (tagLength rec) limit))
 
 -- a leaf's total: word 4 its low half, word 5 its high half
 unfoldable pub totalOf : List ℕ → ℕ

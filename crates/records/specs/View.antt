@@ -4,7 +4,7 @@ use mathlib.Core.List.{List, [], _∷_}
 use mathlib.Core.Bool.{Bool, _&&_}
 use lib.ListN.{take}
 use lib.Dec.{eqb}
-use Rattle.lists.specs.Scan.{choose, all, atMost}
+use Rattle.lists.specs.Scan.{choose, allPass, atMost}
 use Rattle.prefix.specs.Run.{held}
 use Rattle.records.specs.Words.{usedAs, fullLength, tagLength}
 use Rattle.records.specs.Own.{prefixAt, innerOk, leafOk, totalOf}
@@ -51,8 +51,8 @@ ruleIn f (inner-place k n) rec key = innerOk (f .form) k rec
 
 -- they are all 0
 abbrev pub blankIn : Place → List ℕ → List ℕ → Bool
-blankIn (leaf-place n) rec key = all (atMost 0) rec && all (atMost 0) key
-blankIn (inner-place k n) rec key = all (atMost 0) rec
+blankIn (leaf-place n) rec key = allPass (atMost 0) rec && allPass (atMost 0) key
+blankIn (inner-place k n) rec key = allPass (atMost 0) rec
 
 -- ── of the block's words and key bytes ──
 -- the cell at a place, be it in a pool or not

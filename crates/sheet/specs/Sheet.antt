@@ -12,7 +12,7 @@ use Rattle.frames.specs.declared.frame.Caps.{Caps}
 use Rattle.frames.specs.declared.frame.Frame.{Frame}
 use Rattle.records.specs.View.{Held, cellOf}
 use Rattle.art.specs.Trees.{Tree}
-use Rattle.art.specs.Drawings.{Drawing, nothing, one, branch, done, kid, erase}
+use Rattle.art.specs.Drawings.{Drawing, nothing, one, branch, done, kid, sketch}
 use Rattle.art.specs.ReadBack.{read, tree-of}
 use Rattle.pools.specs.Start as starts
 use Rattle.tree.specs.Answer.{foundNumber, foundLeaf, foundTotal}
@@ -85,7 +85,7 @@ afterGiven a = found (range.numberOf a) (range.leafOf a) (range.totalIn a)
 -- what a tree draws from the empty path on; no tree draws nothing
 abbrev pub drawnTree : Option (Tree Held) → Drawing Held
 drawnTree none = nothing
-drawnTree (some t) = erase [] t
+drawnTree (some t) = sketch [] t
 
 -- what the tree draws that is read from the root on
 abbrev pub drawnIn : Frame → Block → Drawing Held

@@ -6,7 +6,7 @@ use mathlib.Core.List.{List}
 use mathlib.Core.Bool.{true, _&&_}
 use native.Mathlib.Omega.{arith}
 use lib.ListN.{length, getD}
-use Rattle.lists.specs.Scan.{all, atMost}
+use Rattle.lists.specs.Scan.{allPass, atMost}
 use Rattle.frames.specs.Frame.{FrameOf, rootWord, countWord}
 use Rattle.frames.specs.Place.{inPool, putAt, putKey}
 use Rattle.frames.specs.declared.frame.Frame.{Frame}
@@ -65,7 +65,7 @@ module _ {f : Frame} {words keys : List ℕ} {σ : Store Held} {links : Links} {
 
   -- a leaf's record and key bytes
   module _ (n : ℕ) (rec key : List ℕ) (pool : inPool f (leaf-place n) ≡ true) (long : length rec ≡ 6) (fit : length key ≡ f .form .limit) where
-    pub leaf-state : (c : Cell Held) → leafCell n rec key ≡ c → (Used c → leafOk (f .form .limit) rec key ≡ true) → (c ≡ unused → all (atMost 0) rec && all (atMost 0) key ≡ true)
+    pub leaf-state : (c : Cell Held) → leafCell n rec key ≡ c → (Used c → leafOk (f .form .limit) rec key ≡ true) → (c ≡ unused → allPass (atMost 0) rec && allPass (atMost 0) key ≡ true)
         → State f (putAt f words (leaf-place n) rec) (putKey f keys n key) (write σ (leaf-place n) c) (own-links links n (getD rec 2 0) (getD rec 3 0)) root count
     leaf-state c e rule blank =
         let w = s .frame in
@@ -77,7 +77,7 @@ module _ {f : Frame} {words keys : List ℕ} {σ : Store Held} {links : Links} {
           frame = leaf-fits w n key pool fit rec long;
           cells = leaf-view w n key pool fit rec long ∙ ap (write (cellOf f words keys) (leaf-place n)) e;
           rule = λ u. ap₂ (leafOk (f .form .limit)) a b ∙ rule u;
-          blank = λ u. ap₂ (λ (r k : List ℕ). all (atMost 0) r && all (atMost 0) k) a b ∙ blank u;
+          blank = λ u. ap₂ (λ (r k : List ℕ). allPass (atMost 0) r && allPass (atMost 0) k) a b ∙ blank u;
           others = leaf-keeps w n key pool fit rec long;
         })
         (leaf-links w n rec pool long ∙ ap (λ (k : Links). own-links k n (getD rec 2 0) (getD rec 3 0)) (s .links-are))

@@ -5,7 +5,7 @@ use mathlib.Core.Logic.{_≢_, ite}
 use mathlib.Core.List.{List}
 use mathlib.Core.Bool.{true}
 use lib.ListN.{length, getD}
-use Rattle.lists.specs.Scan.{all, atMost}
+use Rattle.lists.specs.Scan.{allPass, atMost}
 use Rattle.prefix.specs.Run.{held}
 use Rattle.prefix.specs.declared.Prefix.{Prefix}
 use Rattle.frames.specs.Frame.{FrameOf, rootWord, countWord}
@@ -69,7 +69,7 @@ module _ {f : Frame} {words keys : List ℕ} {σ : Store Held} {links : Links} {
 
   -- an inner record written
   module _ (k n : ℕ) (rec : List ℕ) (pool : inPool f (inner-place k n) ≡ true) (fit : length rec ≡ sizeAt f (inner-place k n)) where
-    pub inner-state : (c : Cell Held) → innerCell (f .form) k rec ≡ c → (Used c → innerOk (f .form) k rec ≡ true) → (c ≡ unused → all (atMost 0) rec ≡ true)
+    pub inner-state : (c : Cell Held) → innerCell (f .form) k rec ≡ c → (Used c → innerOk (f .form) k rec ≡ true) → (c ≡ unused → allPass (atMost 0) rec ≡ true)
         → State f (putAt f words (inner-place k n) rec) keys (write σ (inner-place k n) c) links root count
     inner-state c e rule blank =
         let w = s .frame in

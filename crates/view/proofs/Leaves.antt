@@ -8,7 +8,7 @@ use lib.ListN.{length, getD, take, drop, set, replicate, length-append, length-r
 use lib.Seq.{take-at, drop-at, getD-set-same, getD-set-other}
 use lib.Dec.{eqb, leb}
 use borrow.Author.Tests.{le-leb, ne-eqb}
-use Rattle.lists.specs.Scan.{choose, all, atMost}
+use Rattle.lists.specs.Scan.{choose, allPass, atMost}
 use Rattle.lists.specs.Part.{between}
 use Rattle.lists.proofs.Tests.{and-both, all-take, zeros-all}
 use Rattle.frames.specs.Frame.{FrameOf}
@@ -40,10 +40,10 @@ module _ (limit : ℕ) (tag : List ℕ) (short : length tag ≤ limit) where
   pub bytes-tag : take (length tag) (padded limit tag) ≡ tag
   bytes-tag = take-at tag (replicate (limit - length tag) 0) (length tag) refl
 
-  bytes-rest : all (atMost 0) (between (padded limit tag) (length tag) limit) ≡ true
+  bytes-rest : allPass (atMost 0) (between (padded limit tag) (length tag) limit) ≡ true
   bytes-rest =
       all-take (atMost 0) (limit - length tag) (drop (length tag) (padded limit tag))
-      (ap (all (atMost 0)) (drop-at tag (replicate (limit - length tag) 0) (length tag) refl) ∙ zeros-all (limit - length tag) 0)
+      (ap (allPass (atMost 0)) (drop-at tag (replicate (limit - length tag) 0) (length tag) refl) ∙ zeros-all (limit - length tag) 0)
 
   module _ (p q total : ℕ) where
     pub words-cell : (n : ℕ) → leafCell n (leafWords (length tag) p q total) (padded limit tag) ≡ leaf-cell tag (record { number = n; total = total })
@@ -104,7 +104,7 @@ module _ {f : Frame} {words keys : List ℕ} (w : FrameOf f words keys) (n : ℕ
     unfolding leafOk
     total-rule =
         ap (λ (r : List ℕ). leafOk (f .form .limit) r (keyAt f keys n)) (put-same w (leaf-place n) (setTotal total (recordAt f words (leaf-place n))) hn total-long)
-        ∙ ap₂ (λ (a b : ℕ). leb b (f .form .limit) && (eqb a 1 && all (atMost 0) (between (keyAt f keys n) b (f .form .limit)))) (total-front 0 (omega arith)) (total-front 1 (omega arith))
+        ∙ ap₂ (λ (a b : ℕ). leb b (f .form .limit) && (eqb a 1 && allPass (atMost 0) (between (keyAt f keys n) b (f .form .limit)))) (total-front 0 (omega arith)) (total-front 1 (omega arith))
 
     -- the cell has the new total
     pub total-cell : {tag : List ℕ} {a : Held} → cellOf f words keys (leaf-place n) ≡ leaf-cell tag a

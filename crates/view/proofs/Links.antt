@@ -8,7 +8,7 @@ use native.Mathlib.Omega.{arith}
 use lib.ListN.{length, getD, set, length-set}
 use lib.Seq.{getD-set-other}
 use borrow.Author.Tests.{eq-eqb, ne-eqb, lt-leb}
-use Rattle.lists.specs.Scan.{choose, all, atMost}
+use Rattle.lists.specs.Scan.{choose, allPass, atMost}
 use Rattle.lists.proofs.Tests.{all-fails}
 use Rattle.lists.proofs.Parts.{splice-set}
 use Rattle.frames.specs.Frame.{FrameOf}
@@ -91,7 +91,7 @@ module _ {f : Frame} {words keys : List ℕ} {t i : ℕ} (w : FrameOf f words ke
     unfolding rec
     here-cell = cell-in f now keys (leaf-place n) hn ∙ alike .0 ∙ sym (cell-in f words keys (leaf-place n) hn)
 
-    not-blank : (l : List ℕ) → length l ≡ 6 → getD l 0 0 ≢ 0 → all (atMost 0) l ≡ false
+    not-blank : (l : List ℕ) → length l ≡ 6 → getD l 0 0 ≢ 0 → allPass (atMost 0) l ≡ false
     not-blank l e ne = all-fails (atMost 0) l 0 (omega arith) (lt-leb (getD l 0 0) 0 (omega arith))
 
     here : wordZero f words (leaf-place n) ≢ 0 → Same f words keys now keys (leaf-place n)
@@ -102,7 +102,7 @@ module _ {f : Frame} {words keys : List ℕ} {t i : ℕ} (w : FrameOf f words ke
         record {
           cell = here-cell;
           rule = alike .1;
-          blank = ap (λ (z : Bool). z && all (atMost 0) (keyAt f keys n)) (b ∙ sym a);
+          blank = ap (λ (z : Bool). z && allPass (atMost 0) (keyAt f keys n)) (b ∙ sym a);
         }
 
     same-cell : (x : Place) → inPool f x ≡ true → Dec (x ≡ leaf-place n) → cellOf f now keys x ≡ cellOf f words keys x

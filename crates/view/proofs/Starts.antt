@@ -8,7 +8,7 @@ use lib.ListN.{length, getD, take, replicate, length-append, length-replicate}
 use lib.Seq.{drop-at, take-all}
 use lib.Dec.{eqb}
 use borrow.Author.Tests.{eq-eqb, le-leb, eqb-true}
-use Rattle.lists.specs.Scan.{choose, all, atMost}
+use Rattle.lists.specs.Scan.{choose, allPass, atMost}
 use Rattle.lists.proofs.Tests.{both, and-both, all-between, all-zero, zeros-all, zeros-at}
 use Rattle.lists.proofs.Parts.{between-left}
 use Rattle.frames.specs.Form.{formKnown, formOf, sizesOf}
@@ -87,11 +87,11 @@ module _ (form : Form) (c : Caps) (n k : ℕ) (own : formOf (form .number) ≡ f
       }
 
   -- the words of a place
-  zeros : (x : Place) → inPool startFrame x ≡ true → all (atMost 0) (recordAt startFrame startWords x) ≡ true
+  zeros : (x : Place) → inPool startFrame x ≡ true → allPass (atMost 0) (recordAt startFrame startWords x) ≡ true
   zeros x h =
       let r = place-room start-frame x h in
       let a = startAt startFrame x in
-      ap (all (atMost 0)) (between-left (replicate (n - 16) 0) (trailerWords form c) a (a + sizeAt startFrame x) (omega arith) (omega (arith, start-long, length-replicate {A = ℕ} (n - 16) 0)))
+      ap (allPass (atMost 0)) (between-left (replicate (n - 16) 0) (trailerWords form c) a (a + sizeAt startFrame x) (omega arith) (omega (arith, start-long, length-replicate {A = ℕ} (n - 16) 0)))
       ∙ all-between (atMost 0) (replicate (n - 16) 0) a (a + sizeAt startFrame x) (zeros-all (n - 16) 0)
 
   empty-made : Empty startFrame startWords startKeys

@@ -8,7 +8,7 @@ use native.Mathlib.Numerals.{add-one}
 use lib.ListN.{length, getD, set, length-set}
 use lib.Dec.{eqb, ltb}
 use borrow.Author.Tests.{lt-ltb, le-ltb, eq-eqb, ne-eqb, eqb-true, ltb-true}
-use Rattle.lists.specs.Scan.{choose, count, nonzero}
+use Rattle.lists.specs.Scan.{choose, howMany, nonzero}
 use Rattle.lists.proofs.Tests.{both, count-le}
 use Rattle.frames.specs.Frame.{Framed}
 use Rattle.frames.specs.Place.{placeAt, inPool}
@@ -78,13 +78,13 @@ module _ (f : Frame) (ref : ℕ) (m : List ℕ) where
       (sym o, ap (λ (b : Bool). choose b (set m (markAt f (placeAt ref)) 1) m) (sym o))
 
 -- ── how many are marked ──
-count-set : (m : List ℕ) (at : ℕ) → at < length m → getD m at 0 ≡ 0 → count nonzero (set m at 1) ≡ suc (count nonzero m)
+count-set : (m : List ℕ) (at : ℕ) → at < length m → getD m at 0 ≡ 0 → howMany nonzero (set m at 1) ≡ suc (howMany nonzero m)
 count-set [] at h e = absurd (omega arith)
-count-set (x ∷ xs) zero h e = ap suc (ap (λ (b : Bool). choose b (suc (count nonzero xs)) (count nonzero xs)) (sym (le-ltb 0 x (omega arith))))
+count-set (x ∷ xs) zero h e = ap suc (ap (λ (b : Bool). choose b (suc (howMany nonzero xs)) (howMany nonzero xs)) (sym (le-ltb 0 x (omega arith))))
 count-set (x ∷ xs) (suc at) h e = go (nonzero x) (count-set xs at (omega arith) e)
   where
-    go : (b : Bool) → count nonzero (set xs at 1) ≡ suc (count nonzero xs)
-        → choose b (suc (count nonzero (set xs at 1))) (count nonzero (set xs at 1)) ≡ suc (choose b (suc (count nonzero xs)) (count nonzero xs))
+    go : (b : Bool) → howMany nonzero (set xs at 1) ≡ suc (howMany nonzero xs)
+        → choose b (suc (howMany nonzero (set xs at 1))) (howMany nonzero (set xs at 1)) ≡ suc (choose b (suc (howMany nonzero xs)) (howMany nonzero xs))
     go true ih = ap suc ih
     go false ih = ih
 
@@ -106,10 +106,10 @@ module _ (f : Frame) (ref : ℕ) (m : List ℕ) where
   unfolding reached
   reached-old e = ap (λ (b : Bool). choose b (set m (markAt f (placeAt ref)) 1) m) e
 
-  pub reached-count : fresh f ref m ≡ true → count nonzero (reached f ref m) ≡ suc (count nonzero m)
+  pub reached-count : fresh f ref m ≡ true → howMany nonzero (reached f ref m) ≡ suc (howMany nonzero m)
   reached-count e =
       let p = fresh-parts e in
-      ap (count nonzero) (reached-new e) ∙ count-set m (markAt f (placeAt ref)) (p .1) (p .2)
+      ap (howMany nonzero) (reached-new e) ∙ count-set m (markAt f (placeAt ref)) (p .1) (p .2)
 
   pub reached-length : length (reached f ref m) ≡ length m
   reached-length = go (fresh f ref m) refl
@@ -119,12 +119,12 @@ module _ (f : Frame) (ref : ℕ) (m : List ℕ) where
       go false e = ap length (reached-old e)
 
   -- a fresh record leaves room to count
-  pub fresh-room : fresh f ref m ≡ true → count nonzero m < length m
+  pub fresh-room : fresh f ref m ≡ true → howMany nonzero m < length m
   fresh-room e = omega (arith, reached-count e, reached-length, count-le nonzero (reached f ref m))
 
-  pub reached-more : count nonzero m ≤ count nonzero (reached f ref m)
+  pub reached-more : howMany nonzero m ≤ howMany nonzero (reached f ref m)
   reached-more = go (fresh f ref m) refl
     where
-      go : (b : Bool) → fresh f ref m ≡ b → count nonzero m ≤ count nonzero (reached f ref m)
+      go : (b : Bool) → fresh f ref m ≡ b → howMany nonzero m ≤ howMany nonzero (reached f ref m)
       go true e = omega (arith, reached-count e)
-      go false e = omega (arith, ap (count nonzero) (reached-old e))
+      go false e = omega (arith, ap (howMany nonzero) (reached-old e))

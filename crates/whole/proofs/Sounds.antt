@@ -11,7 +11,7 @@ use lib.ListN.{length, getD, replicate, take, length-take, length-replicate}
 use lib.Dec.{eqb, leb, ltb}
 use borrow.Author.Tests.{leb-true, eqb-true, eq-eqb, ne-eqb, le-ltb}
 use Rattle.view.proofs.Views.{cell-in, cell-out}
-use Rattle.lists.specs.Scan.{choose, all, atMost}
+use Rattle.lists.specs.Scan.{choose, allPass, atMost}
 use Rattle.lists.proofs.Tests.{both, and-both, zeros-at}
 use Rattle.lists.proofs.Tables.{both5}
 use Rattle.prefix.specs.Run.{held as stored}
@@ -66,16 +66,16 @@ absurd-cell : {X : Type 0} {c : Cell Held} → Used c → c ≡ unused → X
 absurd-cell {c = c} u e = absurd (used-not c u e)
 
 -- ── a blank record is unused ──
-blank-first : (l : List ℕ) → all (atMost 0) l ≡ true → getD l 0 0 ≡ 0
+blank-first : (l : List ℕ) → allPass (atMost 0) l ≡ true → getD l 0 0 ≡ 0
 blank-first [] e = refl
-blank-first (x ∷ xs) e = omega (arith, leb-true x 0 (both (leb x 0) (all (atMost 0) xs) e .0))
+blank-first (x ∷ xs) e = omega (arith, leb-true x 0 (both (leb x 0) (allPass (atMost 0) xs) e .0))
 
 module _ (f : Frame) (words keys : List ℕ) where
   raw-blank : (x : Place) → blankAt f words keys x ≡ true → rawCell f words keys x ≡ unused
   raw-blank (leaf-place n) e =
       let rec = recordAt f words (leaf-place n) in
       ap (λ (b : Bool). choose b unused (leaf-cell (take (getD rec 1 0) (keyAt f keys n)) (record { number = n; total = totalOf rec })))
-      (eq-eqb (getD rec 0 0) 0 (blank-first rec (both (all (atMost 0) rec) (all (atMost 0) (keyAt f keys n)) e .0)))
+      (eq-eqb (getD rec 0 0) 0 (blank-first rec (both (allPass (atMost 0) rec) (allPass (atMost 0) (keyAt f keys n)) e .0)))
   raw-blank (inner-place k n) e =
       let rec = recordAt f words (inner-place k n) in
       ap (λ (b : Bool). choose b unused (inner-cell (getD rec 2 0) (stored (prefixAt (f .form) rec)) (places (rowAt (f .form) k rec)))) (eq-eqb (getD rec 0 0) 0 (blank-first rec e))

@@ -9,7 +9,7 @@ use native.Mathlib.Decide.{ℕ-discrete}
 use lib.ListN.{getD}
 use lib.Dec.{ltb}
 use borrow.Author.Tests.{lt-ltb}
-use Rattle.lists.specs.Scan.{choose, all, atMost}
+use Rattle.lists.specs.Scan.{choose, allPass, atMost}
 use Rattle.lists.specs.Part.{between}
 use Rattle.lists.proofs.Tests.{both, and-both}
 use Rattle.frames.specs.Form.{recordWords}
@@ -25,18 +25,18 @@ use Rattle.whole.specs.Sweep.{allUnder, sweptAt, sweptPool, swept}
 
 -- ── a blank record, by its place and first word ──
 module _ (f : Frame) (words keys : List ℕ) (x : Place) (start : ℕ) (s : start ≡ startAt f x) where
-  pub blank-leaf : (n : ℕ) → x ≡ leaf-place n → {a b : Bool} → a ≡ all (atMost 0) (between words start (start + 6)) → b ≡ all (atMost 0) (keyAt f keys n) → a && b ≡ blankAt f words keys x
+  pub blank-leaf : (n : ℕ) → x ≡ leaf-place n → {a b : Bool} → a ≡ allPass (atMost 0) (between words start (start + 6)) → b ≡ allPass (atMost 0) (keyAt f keys n) → a && b ≡ blankAt f words keys x
   blank-leaf n e {a} {b} p q =
       ap (λ (t : Bool). t && b) p
-      ∙ ap (λ (t : Bool). all (atMost 0) (between words start (start + 6)) && t) q
-      ∙ ap (λ (i : ℕ). all (atMost 0) (between words i (i + 6)) && all (atMost 0) (keyAt f keys n)) (s ∙ ap (startAt f) e)
+      ∙ ap (λ (t : Bool). allPass (atMost 0) (between words start (start + 6)) && t) q
+      ∙ ap (λ (i : ℕ). allPass (atMost 0) (between words i (i + 6)) && allPass (atMost 0) (keyAt f keys n)) (s ∙ ap (startAt f) e)
       ∙ ap (blankAt f words keys) (sym e)
 
-  pub blank-inner : (k n : ℕ) → x ≡ inner-place k n → {a : Bool} {z : ℕ} → z ≡ recordWords (f .form) k → a ≡ all (atMost 0) (between words start (start + z)) → a ≡ blankAt f words keys x
+  pub blank-inner : (k n : ℕ) → x ≡ inner-place k n → {a : Bool} {z : ℕ} → z ≡ recordWords (f .form) k → a ≡ allPass (atMost 0) (between words start (start + z)) → a ≡ blankAt f words keys x
   blank-inner k n e {a} {z} h p =
       p
-      ∙ ap (λ (i : ℕ). all (atMost 0) (between words start (start + i))) h
-      ∙ ap (λ (i : ℕ). all (atMost 0) (between words i (i + recordWords (f .form) k))) (s ∙ ap (startAt f) e)
+      ∙ ap (λ (i : ℕ). allPass (atMost 0) (between words start (start + i))) h
+      ∙ ap (λ (i : ℕ). allPass (atMost 0) (between words i (i + recordWords (f .form) k))) (s ∙ ap (startAt f) e)
       ∙ ap (blankAt f words keys) (sym e)
 
 -- ── each number below ──

@@ -8,7 +8,7 @@ use native.Mathlib.Omega.{arith}
 use lib.ListN.{length, getD}
 use lib.Dec.{eqb, leb, ltb}
 use borrow.Author.Tests.{eqb-true, eqb-false, leb-true, leb-false, ltb-true, le-leb, lt-leb}
-use Rattle.lists.specs.Scan.{choose, count, nonzero}
+use Rattle.lists.specs.Scan.{choose, howMany, nonzero}
 use Rattle.lists.specs.Part.{between}
 use Rattle.lists.proofs.Tests.{both}
 use Rattle.frames.specs.Frame.{trailerOf, frameOf, FrameOf}
@@ -250,7 +250,7 @@ module _ (f : Frame) (words keys : List ℕ) where
       leaf-picked left ref n start (eqb (ref % 8) 5) refl (placeAt ref) refl (inPool f (placeAt ref) && (ruleAt f words keys (placeAt ref) && onPath left (placeAt ref))) refl e
 
   -- and is one more, where it follows
-  leaf-kept : (left ref : ℕ) (rec m : List ℕ) (s : Seen) (n start : ℕ) → arrivalAt f words keys left (placeAt ref) ≡ Leaf n start → fresh f ref m ≡ true → s .count ≤ count nonzero m
+  leaf-kept : (left ref : ℕ) (rec m : List ℕ) (s : Seen) (n start : ℕ) → arrivalAt f words keys left (placeAt ref) ≡ Leaf n start → fresh f ref m ≡ true → s .count ≤ howMany nonzero m
       → Kept (reached f ref m) (leafVisit rec ref s)
   unfolding leafVisit
   leaf-kept left ref rec m s n start e fr c = go (eqb (getD rec 2 0) (s .prev) && eqb (s .next) ref)
@@ -275,7 +275,7 @@ module _ (f : Frame) (words keys : List ℕ) where
       go false = (tt, tt)
   end-kept row depth m Ill k = (tt, tt)
 
-  rows-kept : (w : ℕ) (m : List ℕ) (s : Seen) → WitnessSeen f words keys w → s .count ≤ count nonzero m → Kept m (rowEnd w s)
+  rows-kept : (w : ℕ) (m : List ℕ) (s : Seen) → WitnessSeen f words keys w → s .count ≤ howMany nonzero m → Kept m (rowEnd w s)
   unfolding rowEnd
   rows-kept w m s h c = go (eqb w 0) refl
     where
@@ -284,14 +284,14 @@ module _ (f : Frame) (words keys : List ℕ) where
       go false e = (h .seen (eqb-false w 0 e), c)
 
   abbrev KeptBy : (ℕ → ℕ → List ℕ → Seen → Way) → Type 0
-  KeptBy g = (ref depth : ℕ) (m : List ℕ) (s : Seen) → s .count ≤ count nonzero m → Kept (g ref depth m s .marks) (g ref depth m s .visit)
+  KeptBy g = (ref depth : ℕ) (m : List ℕ) (s : Seen) → s .count ≤ howMany nonzero m → Kept (g ref depth m s .marks) (g ref depth m s .visit)
 
   on-kept : (v : Visit) (m : List ℕ) (go : ℕ → List ℕ → Seen → Way) → Kept m v
-      → ((w : ℕ) (s : Seen) → WitnessSeen f words keys w → s .count ≤ count nonzero m → Kept (go w m s .marks) (go w m s .visit)) → Kept (wayOn v m go .marks) (wayOn v m go .visit)
+      → ((w : ℕ) (s : Seen) → WitnessSeen f words keys w → s .count ≤ howMany nonzero m → Kept (go w m s .marks) (go w m s .visit)) → Kept (wayOn v m go .marks) (wayOn v m go .visit)
   on-kept (Well w s) m go k h = h w s (leaf-witness (k .0)) (k .1)
   on-kept Ill m go k h = (tt, tt)
 
-  pub row-kept : (g : ℕ → ℕ → List ℕ → Seen → Way) → KeptBy g → (e w : ℕ) (cs : List (ℕ × ℕ)) (m : List ℕ) (s : Seen) → WitnessSeen f words keys w → s .count ≤ count nonzero m
+  pub row-kept : (g : ℕ → ℕ → List ℕ → Seen → Way) → KeptBy g → (e w : ℕ) (cs : List (ℕ × ℕ)) (m : List ℕ) (s : Seen) → WitnessSeen f words keys w → s .count ≤ howMany nonzero m
       → Kept (rowBy f words keys g e w cs m s .marks) (rowBy f words keys g e w cs m s .visit)
   unfolding rowBy
   row-kept g k e w [] m s h c = rows-kept w m s h c
@@ -301,7 +301,7 @@ module _ (f : Frame) (words keys : List ℕ) where
       (λ t s′ h′ c′. row-kept g k e t cs (y .marks) s′ h′ c′)
 
   turn-kept : (left ref depth : ℕ) (m : List ℕ) (s : Seen) (check : Row → List ℕ → Way) → ((row : Row) → Kept (check row (reached f ref m) .marks) (check row (reached f ref m) .visit))
-      → s .count ≤ count nonzero m
+      → s .count ≤ howMany nonzero m
       → Kept (afterTurn f words keys check depth (turnAt f words keys left ref depth m s) (reached f ref m) .marks) (afterTurn f words keys check depth (turnAt f words keys left ref depth m s) (reached f ref m) .visit)
   unfolding turnAt
   turn-kept left ref depth m s check k c = go (fresh f ref m) refl (arrivalAt f words keys left (placeAt ref)) refl
@@ -337,11 +337,11 @@ module _ {f : Frame} {words keys : List ℕ} (fr : FrameOf f words keys) (left r
     pub branch-here : Branches f words left depth row
     branch-here = branches fr left ref depth m s row (sym te ∙ e)
 
-    pub record-counted : s .count ≤ count nonzero m → s .count ≤ count nonzero m′
-    record-counted c = omega (arith, ap (count nonzero) me, reached-more f ref m)
+    pub record-counted : s .count ≤ howMany nonzero m → s .count ≤ howMany nonzero m′
+    record-counted c = omega (arith, ap (howMany nonzero) me, reached-more f ref m)
 
     module _ {v : Visit} {mr : List ℕ} (ve : v ≡ rowWay f words keys (left - 1) row 0 0 m′ s .visit) (re : mr ≡ rowWay f words keys (left - 1) row 0 0 m′ s .marks) where
-      pub row-sees : s .count ≤ count nonzero m → Sees f words keys v
+      pub row-sees : s .count ≤ howMany nonzero m → Sees f words keys v
       row-sees c =
           subst (Sees f words keys) (sym ve)
           (row-kept f words keys (recordBy f words keys (left - 1)) (record-kept f words keys (left - 1)) (row .depth) 0 (rowFrom 0 (rowOf f words row)) m′ s (no-witness f words keys) (record-counted c) .0)

@@ -30,7 +30,7 @@ use Rattle.art.specs.Stores.{Place, leaf-place, inner-place, place-dec, Cell, u
 use Rattle.art.specs.Members.{In, in-dec}
 use Rattle.art.specs.Chain.{Links, leaf-ref, after-ref, follows}
 use Rattle.art.proofs.Chains.{after-next}
-use Rattle.art.specs.Visit.{and-then, when, State, marked, listed, enlist}
+use Rattle.art.specs.Visit.{and-then, provided, State, marked, listed, enlist}
 use Rattle.art.specs.Witness.{Hand, Tells, goes-on, probe-more, probe-refs, probe-run, probe-cell, probe}
 use Rattle.tree.specs.Arrive.{arrivalAt, arrived, onPath}
 use Rattle.whole.specs.Arrive.{innerRec}
@@ -177,7 +177,7 @@ module _ (f : Frame) (words keys : List ℕ) where
   leaf-same : (n ref : ℕ) (m : List ℕ) (s : Seen) (z : State) → inPool f (leaf-place n) ≡ true → ref ≡ leaf-ref n → Tally m s z
       → Same (way (leafVisit (recordAt f words (leaf-place n)) ref s) m) (and-then (enlist (follows (linksOf f words)) n z) (λ y. some (leaf-ref n, y)))
   unfolding leafVisit linksOf
-  leaf-same n ref m s z p e t = subst (λ (b : Bool). Same (way (choose b (Well ref after) Ill) m) (and-then (when (follows k (z .prev) n) (listed n z)) (λ y. some (leaf-ref n, y)))) (sym tests) (go (follows k (z .prev) n))
+  leaf-same n ref m s z p e t = subst (λ (b : Bool). Same (way (choose b (Well ref after) Ill) m) (and-then (provided (follows k (z .prev) n) (listed n z)) (λ y. some (leaf-ref n, y)))) (sym tests) (go (follows k (z .prev) n))
     where
       k : Links
       k = linksOf f words
@@ -195,7 +195,7 @@ module _ (f : Frame) (words keys : List ℕ) where
           ∙ ap (λ (x : ℕ). eqb (linkAt f words 2 n) (z .prev) && eqb x ref) (t .next)
           ∙ ap (λ (x : ℕ). eqb (linkAt f words 2 n) (z .prev) && eqb (after-ref k (z .prev)) x) e
 
-      go : (b : Bool) → Same (way (choose b (Well ref after) Ill) m) (and-then (when b (listed n z)) (λ y. some (leaf-ref n, y)))
+      go : (b : Bool) → Same (way (choose b (Well ref after) Ill) m) (and-then (provided b (listed n z)) (λ y. some (leaf-ref n, y)))
       go true = (
         after,
         ap (λ (x : ℕ). Well x after) e,

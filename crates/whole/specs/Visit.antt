@@ -3,7 +3,7 @@ use Prim.Native.Nat.{ℕ, zero, suc, _+_, _*_, _≤_}
 use mathlib.Core.List.{List, [], _∷_}
 use mathlib.Core.Bool.{_&&_}
 use lib.Dec.{eqb, leb}
-use Rattle.lists.specs.Scan.{choose, count, nonzero}
+use Rattle.lists.specs.Scan.{choose, howMany, nonzero}
 use Rattle.lists.specs.Part.{between}
 use Rattle.frames.specs.Frame.{FrameOf}
 use Rattle.frames.specs.Place.{placeAt}
@@ -122,13 +122,13 @@ Sees f words keys Ill = Unit {0}
 
 -- no more leaves are counted than records are marked
 abbrev pub Counted : List ℕ → Visit → Type 0
-Counted m (Well w s) = s .count ≤ count nonzero m
+Counted m (Well w s) = s .count ≤ howMany nonzero m
 Counted m Ill = Unit {0}
 
 -- before a record: the frame is the block's, the count is within the marks, and the depth is small, since each inner record of a path adds a small number
 pub record RecordReady (f : Frame) (words keys : List ℕ) (left depth : ℕ) (s : Seen) (m : List ℕ) : Type 0 where
   pub frame : FrameOf f words keys
-  pub counted : s .count ≤ count nonzero m
+  pub counted : s .count ≤ howMany nonzero m
   pub shallow : depth + left * 256 ≤ 65536
 
 -- before the rest of a row, from a byte on: the same, the row's record is there and obeys its rule, and its witness is a leaf or none yet
@@ -137,5 +137,5 @@ pub record RowReady (f : Frame) (words keys : List ℕ) (left : ℕ) (row : Row)
   pub there : InnerThere (f .form) words (row .kind) (row .start)
   pub within : byte ≤ 256
   pub witness : WitnessSeen f words keys w
-  pub counted : s .count ≤ count nonzero m
+  pub counted : s .count ≤ howMany nonzero m
   pub shallow : row .depth + 1 + left * 256 ≤ 65536

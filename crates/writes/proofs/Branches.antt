@@ -8,7 +8,7 @@ use lib.ListN.{length, getD, set, replicate, length-set, length-replicate}
 use lib.Seq.{getD-set-other}
 use lib.Dec.{lit≤}
 use borrow.Author.Tests.{eqb-true}
-use Rattle.lists.specs.Scan.{count, nonzero}
+use Rattle.lists.specs.Scan.{howMany, nonzero}
 use Rattle.prefix.specs.declared.Prefix.{Prefix}
 use Rattle.frames.specs.Kind.{kindRow}
 use Rattle.frames.specs.declared.form.Form.{Form}
@@ -36,7 +36,7 @@ zero-at (suc n) zero = refl
 zero-at (suc n) (suc i) = zero-at n i
 
 -- how many children a table has
-direct-count : (body : List ℕ) (n : ℕ) (row : Row) → Direct body n row → count nonzero body ≡ n
+direct-count : (body : List ℕ) (n : ℕ) (row : Row) → Direct body n row → howMany nonzero body ≡ n
 unfolding directOk
 direct-count body n row d = eqb-true _ _ (d .ok)
 
@@ -53,7 +53,7 @@ module _ (b r c s : ℕ) (ne : b ≢ c) (bl : b < 256) (cl : c < 256) (rs : 0 < 
       table-insert b (set none c s) (length-set none c s ∙ length-replicate {A = ℕ} 256 0) bl r (getD-set-other none c b s 0 ne ∙ zero-at 256 b) rs
       ∙ ap (rowInsert b r) (table-insert c none (length-replicate {A = ℕ} 256 0) cl s (zero-at 256 c) ss ∙ ap (rowInsert c s) (zeros-row 256 0))
 
-  pub pair-count : count nonzero (set (set none c s) b r) ≡ 2
+  pub pair-count : howMany nonzero (set (set none c s) b r) ≡ 2
   pair-count =
       direct-count (set (set none c s) b r) 2 (rowPair b r c s)
       (direct-shown (set (set none c s) b r) 2 (rowPair b r c s) pair-long pair-row (pair-climbs b r c s ne bl cl rs ss .0))
@@ -69,7 +69,7 @@ module _ {form : Form} {kind : ℕ} {rec : List ℕ} {p : Prefix} {row : Row} (i
   pub spread-long : length S ≡ 256
   spread-long = spread-of i .0
 
-  pub spread-count : count nonzero S ≡ getD rec 1 0
+  pub spread-count : howMany nonzero S ≡ getD rec 1 0
   spread-count = spread-of i .2 ∙ inner-size i
 
   few : length row ≤ 256
@@ -79,7 +79,7 @@ module _ {form : Form} {kind : ℕ} {rec : List ℕ} {p : Prefix} {row : Row} (i
   unfolding childOf kindRow
   at-byte b low = holds-child (holds-laid 4 S (length row) row (lit≤ tt) (lit≤ tt) few table) b low
 
-  pub drop-count : (b : ℕ) → b < 256 → 0 < childAt form kind rec b → count nonzero (set S b 0) ≡ getD rec 1 0 - 1
+  pub drop-count : (b : ℕ) → b < 256 → 0 < childAt form kind rec b → howMany nonzero (set S b 0) ≡ getD rec 1 0 - 1
   drop-count b low some =
       direct-count (set S b 0) (length row - 1) (rowRemove b row)
       (direct-change S (length row) row table refl (inner-climbs i) b low (at-byte b low) Remove (omega (arith, inner-child i b low)))

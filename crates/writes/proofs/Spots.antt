@@ -5,7 +5,7 @@ use mathlib.Core.List.{List}
 use mathlib.Core.Bool.{true}
 use native.Mathlib.Omega.{arith}
 use lib.ListN.{length, getD}
-use Rattle.lists.specs.Scan.{count, nonzero}
+use Rattle.lists.specs.Scan.{howMany, nonzero}
 use Rattle.lists.specs.Part.{between, splice}
 use Rattle.prefix.specs.declared.Prefix.{Prefix}
 use Rattle.frames.specs.Kind.{childrenOf}
@@ -102,12 +102,12 @@ frame-stores {f} {words} {keys} w =
 -- a record can be built at the part, from these places
 pub build-ready : {f : Frame} {words keys : List ℕ} → FrameOf f words keys → (ref a e : ℕ) → a ≡ startAt f (placeAt ref)
     → e ≡ startAt f (placeAt ref) + sizeAt f (placeAt ref) → InnerPlace f (placeAt ref) → (p : Prefix) → length (p .stored) ≡ 8
-    → (t : List ℕ) → length t ≡ 256 → count nonzero t ≤ childrenOf (kindAt (placeAt ref))
+    → (t : List ℕ) → length t ≡ 256 → howMany nonzero t ≤ childrenOf (kindAt (placeAt ref))
     → (((1 ≤ ref % 8) × (ref % 8 ≤ 4)) × (length (between words a e) ≡ recordWords (f .form) (ref % 8)))
-    × ((Stores (f .form) × (length (p .stored) ≡ 8)) × ((length t ≡ 256) × (count nonzero t ≤ childrenOf (ref % 8))))
+    × ((Stores (f .form) × (length (p .stored) ≡ 8)) × ((length t ≡ 256) × (howMany nonzero t ≤ childrenOf (ref % 8))))
 build-ready {f} {words} {keys} w ref a e start end h p stored t long few =
     let r = room-of w ref h in
-    (((r .low, r .high), part-has f words ref start end (λ (k : ℕ) (l : List ℕ). length l ≡ recordWords (f .form) k) (record-long w (placeAt ref) h)), ((frame-stores w, stored), (long, subst (λ (k : ℕ). count nonzero t ≤ childrenOf k) (place-kind ref) few)))
+    (((r .low, r .high), part-has f words ref start end (λ (k : ℕ) (l : List ℕ). length l ≡ recordWords (f .form) k) (record-long w (placeAt ref) h)), ((frame-stores w, stored), (long, subst (λ (k : ℕ). howMany nonzero t ≤ childrenOf k) (place-kind ref) few)))
 
 -- ── leaves ──
 -- a leaf's key bytes are a part of the key bytes

@@ -10,7 +10,7 @@ use Rattle.writes.specs.At.{prefixedAt}
 use Rattle.whole.proofs.Turning.{limit-small}
 use Rattle.writes.proofs.Spots.{here-place, prefix-short}
 use Rattle.writes.proofs.Kept.{prefixed-kept}
-use Rattle.delete.proofs.Joins.{merge-stored, join-here, join-leaf, join-inner}
+use Rattle.delete.proofs.Joins.{merge-stored, combined-here, combined-leaf, combined-inner}
 use borrow.Author.Needs.{needs}
 use Rattle.delete.proofs.apply.join_at.Statement.{statement}
 use Rattle.delete.proofs.apply.join_at.Tie as tie
@@ -19,14 +19,14 @@ returns : tie.Need-returns
 returns c =
     let s = c .before .before .before in
     let a = s .args in
-    (join-leaf (a .f) (a .words .now) (a .child) (placeAt (a .reference)) (a .byte) (c .if1 .taken), s .pre .0)
+    (combined-leaf (a .f) (a .words .now) (a .child) (placeAt (a .reference)) (a .byte) (c .if1 .taken), s .pre .0)
 
 prefix-of-requires-2 : tie.Need-prefix-of-requires-2
 prefix-of-requires-2 c κs =
     let b3 = c .before .before .before in
     let s = b3 .before .before .before in
     let a = s .args in
-    let h = join-here (a .f) (a .words .now) (a .child) (b3 .if1 .left) (s .pre .1 .1 .0) in
+    let h = combined-here (a .f) (a .words .now) (a .child) (b3 .if1 .left) (s .pre .1 .1 .0) in
     (s .pre .0, here-place h)
 
 merge-requires : tie.Need-merge-requires
@@ -36,7 +36,7 @@ merge-requires c κs =
     let b4 = b2 .before .before in
     let s = b4 .before .before .before in
     let a = s .args in
-    let h = join-here (a .f) (a .words .now) (a .child) (b4 .if1 .left) (s .pre .1 .1 .0) in
+    let h = combined-here (a .f) (a .words .now) (a .child) (b4 .if1 .left) (s .pre .1 .1 .0) in
     let form = a .f .form in
     let words = a .words .now in
     let p = b2 .prefix-of .ensures in
@@ -51,7 +51,7 @@ set-prefix-at-requires c κs =
     let b6 = b4 .before .before in
     let s = b6 .before .before .before in
     let a = s .args in
-    let h = join-here (a .f) (a .words .now) (a .child) (b6 .if1 .left) (s .pre .1 .1 .0) in
+    let h = combined-here (a .f) (a .words .now) (a .child) (b6 .if1 .left) (s .pre .1 .1 .0) in
     (s .pre .0, (h, ap (λ p. length (p .stored)) (b1 .merge .ensures) ∙ merge-stored (b4 .prefix-of .result) (a .byte) (b2 .prefix-of2 .result)))
 
 returns-2 : tie.Need-returns-2
@@ -63,10 +63,10 @@ returns-2 c =
     let b9 = b7 .before .before in
     let s = b9 .before .before .before in
     let a = s .args in
-    let h = join-here (a .f) (a .words .now) (a .child) (b9 .if1 .left) (s .pre .1 .1 .0) in
+    let h = combined-here (a .f) (a .words .now) (a .child) (b9 .if1 .left) (s .pre .1 .1 .0) in
     let words = a .words .now in
     let out = b2 .set-prefix-at in
-    (out .ensures ∙ ap (λ p. prefixedAt (a .f) (placeAt (a .child)) p words) (b4 .merge .ensures ∙ ap₂ (λ p q. mergeOf p (a .byte) q) (b7 .prefix-of .ensures) (b5 .prefix-of2 .ensures)) ∙ join-inner (a .f) words (a .child) (placeAt (a .reference)) (a .byte) (b9 .if1 .left), prefixed-kept (s .pre .0) (out .last .0) (out .kept .0) (placeAt (a .child)) (h .pool) (b4 .merge .result) (out .ensures))
+    (out .ensures ∙ ap (λ p. prefixedAt (a .f) (placeAt (a .child)) p words) (b4 .merge .ensures ∙ ap₂ (λ p q. mergeOf p (a .byte) q) (b7 .prefix-of .ensures) (b5 .prefix-of2 .ensures)) ∙ combined-inner (a .f) words (a .child) (placeAt (a .reference)) (a .byte) (b9 .if1 .left), prefixed-kept (s .pre .0) (out .last .0) (out .kept .0) (placeAt (a .child)) (h .pool) (b4 .merge .result) (out .ensures))
 
 pub join-at-spec : {M : Type 1} → statement M
 join-at-spec =

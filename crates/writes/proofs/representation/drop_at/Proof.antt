@@ -3,7 +3,7 @@ use mathlib.Core.Path.{ap, ap₂, _∙_}
 use native.Mathlib.Omega.{arith}
 use lib.ListN.{length, set, length-set}
 use Rattle.lists.specs.Part.{splice}
-use Rattle.lists.specs.Scan.{count, nonzero}
+use Rattle.lists.specs.Scan.{howMany, nonzero}
 use Rattle.frames.specs.Place.{placeAt, recordAt, putAt}
 use Rattle.frames.proofs.FormTable.{stored-eight}
 use Rattle.records.specs.Own.{prefixAt}
@@ -30,7 +30,7 @@ build-requires c κs =
     let m = s .pre .1 in
     let i = inner-own (m .from .here .fits) in
     let t = b3 .spread-at in
-    build-ready (s .pre .0) (a .new) _ _ (part .0) (part .1 .0) (m .to) (b5 .prefix-of .result) (ap (λ p. length (p .stored)) (b5 .prefix-of .ensures) ∙ stored-eight (a .f .form) (recordAt (a .f) (a .words .now) (placeAt (a .old)))) (set (t .result) (a .byte) 0) (length-set (t .result) (a .byte) 0 ∙ ap length (t .ensures) ∙ spread-long i) (omega (arith, ap (λ l. count nonzero (set l (a .byte) 0)) (t .ensures), drop-count i (a .byte) (s .fits .byte .fits) (m .from .child), m .room))
+    build-ready (s .pre .0) (a .new) _ _ (part .0) (part .1 .0) (m .to) (b5 .prefix-of .result) (ap (λ p. length (p .stored)) (b5 .prefix-of .ensures) ∙ stored-eight (a .f .form) (recordAt (a .f) (a .words .now) (placeAt (a .old)))) (set (t .result) (a .byte) 0) (length-set (t .result) (a .byte) 0 ∙ ap length (t .ensures) ∙ spread-long i) (omega (arith, ap (λ l. howMany nonzero (set l (a .byte) 0)) (t .ensures), drop-count i (a .byte) (s .fits .byte .fits) (m .from .child), m .room))
 
 returns : tie.Need-returns
 unfolding dropAt splice

@@ -3,7 +3,7 @@ use mathlib.Core.Path.{ap, ap₂, _∙_}
 use native.Mathlib.Omega.{arith}
 use lib.ListN.{length}
 use Rattle.lists.specs.Part.{splice}
-use Rattle.lists.specs.Scan.{count, nonzero}
+use Rattle.lists.specs.Scan.{howMany, nonzero}
 use Rattle.frames.specs.Place.{placeAt, recordAt, putAt}
 use Rattle.frames.proofs.FormTable.{stored-eight}
 use Rattle.records.specs.Own.{prefixAt}
@@ -29,7 +29,7 @@ build-requires c κs =
     let a = s .args in
     let m = s .pre .1 in
     let i = inner-own (m .from .fits) in
-    build-ready (s .pre .0) (a .new) _ _ (part .0) (part .1 .0) (m .to) (b5 .prefix-of .result) (ap (λ p. length (p .stored)) (b5 .prefix-of .ensures) ∙ stored-eight (a .f .form) (recordAt (a .f) (a .words .now) (placeAt (a .old)))) (b3 .spread-at .result) (ap length (b3 .spread-at .ensures) ∙ spread-long i) (omega (arith, ap (count nonzero) (b3 .spread-at .ensures), spread-count i, m .room))
+    build-ready (s .pre .0) (a .new) _ _ (part .0) (part .1 .0) (m .to) (b5 .prefix-of .result) (ap (λ p. length (p .stored)) (b5 .prefix-of .ensures) ∙ stored-eight (a .f .form) (recordAt (a .f) (a .words .now) (placeAt (a .old)))) (b3 .spread-at .result) (ap length (b3 .spread-at .ensures) ∙ spread-long i) (omega (arith, ap (howMany nonzero) (b3 .spread-at .ensures), spread-count i, m .room))
 
 returns : tie.Need-returns
 unfolding moveAt splice
