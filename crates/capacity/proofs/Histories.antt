@@ -7,7 +7,6 @@ use mathlib.Core.Option.{some}
 use mathlib.Core.Bool.{Bool, true, false}
 use native.Mathlib.Omega.{arith}
 use lib.ListN.{length}
-use Rattle.frames.specs.Form.{formOf}
 use Rattle.frames.specs.Frame.{frame}
 use Rattle.frames.specs.Kind.{markOf}
 use Rattle.frames.specs.declared.frame.Caps.{Caps}
@@ -18,13 +17,14 @@ use Rattle.art.specs.Stores.{inner-place}
 use Rattle.art.specs.Points.{store-of}
 use Rattle.art.specs.Verdicts.{judge}
 use Rattle.pools.specs.Start as start-call
-use Rattle.pools.specs.Start.{startFits, startOf}
+use Rattle.pools.specs.Start.{startFitsIn, startOf}
 use Rattle.pools.specs.declared.start.Started.the-variants as started
 use Rattle.view.proofs.Starts.{start-refused, start-done, start-empty}
 use Rattle.reading.specs.Answers.{Bytes}
 use Rattle.insert.specs.Room.{LeavesFull, Lacking, Answers}
 use Rattle.insert.specs.Insert as insert-call
 use Rattle.insert.proofs.Refusals.{plan-answers}
+use Rattle.insert.proofs.Calls.{short-fits}
 use Rattle.insert.proofs.Sounds.{insert-grown}
 use Rattle.insert.proofs.Overs.{over-altered}
 use Rattle.delete.specs.Delete as delete-call
@@ -33,7 +33,6 @@ use Rattle.demands.specs.Calls.{Call, start, query, ask, edit, insert, delete, 
 use Rattle.demands.specs.Histories.{Block, Turn, lent, answered, next, after-all, CallBytes, AllBytes}
 use Rattle.demands.specs.Frames.{NoStart}
 use Rattle.demands.proofs.Cases.{insert-cases, delete-cases}
-use Rattle.demands.proofs.Changes.{frame-limit}
 use Rattle.demands.proofs.Frames.{frame-kept, kept-frame}
 use Rattle.demands.proofs.KeyBytes.{start-bytes, step-bytes}
 use Rattle.capacity.specs.Capacity.{Ample, AmpleFrame, AmpleCaps, AmpleCall, AmpleStarts, Over, Tight}
@@ -54,7 +53,7 @@ module _ (words keys : List ℕ) (tight : TightAfter words keys) (ample : AmpleF
   insert-tight scratch tag total bytes key-bytes =
       insert-cases words keys tag total (λ o. TightAfter (o .words) (o .keys)) (λ a r e. tight)
       (λ r s short site n gap e.
-      let z = insert-grown s tag bytes key-bytes (subst (λ (m : ℕ). length tag ≤ m) (sym (frame-limit s)) short) site n gap total e in
+      let z = insert-grown s tag bytes key-bytes (short-fits words keys tag (s .fits) short) site n gap total e in
       let free : ¬ LeavesFull (frame words) (store-of (s .tree)) =
       subst (Answers (judge tag (held (s .tree))) (LeavesFull (frame words) (store-of (s .tree))) (Lacking (frame words) (s .tree) tag)) e (plan-answers s tag bytes) .1 in
       tight-block (z .0) (put-tight s tag bytes tight ample free (record { number = n; total = total }) (z .0 .tree) (z .1)))
@@ -66,11 +65,11 @@ module _ (words keys : List ℕ) (tight : TightAfter words keys) (ample : AmpleF
       (λ r s cut n gap e. let z = delete-without s tag bytes cut n gap e in tight-block (z .0) (left-tight s tag bytes tight ample (z .0 .tree) (z .1))) scratch
 
 -- an accepted start: nothing is used, and the frame has the capacities
-started-ample : (words keys : List ℕ) (c : Caps) → startFits (formOf 1) c (length words) (length keys) ≡ true → AmpleCaps c
-    → let o = startOf words keys c in AmpleFrame (frame (o .words)) × TightAfter (o .words) (o .keys)
-started-ample words keys c e ample =
-    let z = start-empty words keys c e in
-    let o = startOf words keys c in
+started-ample : (words keys : List ℕ) (form : ℕ) (c : Caps) → startFitsIn form c (length words) (length keys) ≡ true → AmpleCaps c
+    → let o = startOf words keys form c in AmpleFrame (frame (o .words)) × TightAfter (o .words) (o .keys)
+started-ample words keys form c e ample =
+    let z = start-empty words keys form c e in
+    let o = startOf words keys form c in
     (subst AmpleFrame (z .frame .read) ample, subst (λ (f : Frame). Tight f (o .words) (o .keys)) (z .frame .read) (λ k n. subst (Over (markOf k)) (sym (z .cells (inner-place k n))) tt))
 
 -- what stays from call to call
@@ -79,12 +78,12 @@ record Kept (words keys : List ℕ) : Type 0 where
   tight : TightAfter words keys
 
 module _ (b : Block) (k : Kept (b .words) (b .keys)) (bytes : Bytes (b .keys)) where
-  start-keeps : (c : Caps) → (startOf (b .words) (b .keys) c .answer ≡ started.Done → AmpleCaps c) → let o = startOf (b .words) (b .keys) c in Kept (o .words) (o .keys)
-  start-keeps c h = go (startFits (formOf 1) c (length (b .words)) (length (b .keys))) refl
+  start-keeps : (form : ℕ) (c : Caps) → (startOf (b .words) (b .keys) form c .answer ≡ started.Done → AmpleCaps c) → let o = startOf (b .words) (b .keys) form c in Kept (o .words) (o .keys)
+  start-keeps form c h = go (startFitsIn form c (length (b .words)) (length (b .keys))) refl
     where
-      go : (t : Bool) → startFits (formOf 1) c (length (b .words)) (length (b .keys)) ≡ t → let o = startOf (b .words) (b .keys) c in Kept (o .words) (o .keys)
-      go true e = let z = started-ample (b .words) (b .keys) c e (h (start-done (b .words) (b .keys) c e)) in record { ample = z .0; tight = z .1 }
-      go false e = subst (λ (o : start-call.Out). Kept (o .words) (o .keys)) (sym (start-refused (b .words) (b .keys) c e)) k
+      go : (t : Bool) → startFitsIn form c (length (b .words)) (length (b .keys)) ≡ t → let o = startOf (b .words) (b .keys) form c in Kept (o .words) (o .keys)
+      go true e = let z = started-ample (b .words) (b .keys) form c e (h (start-done (b .words) (b .keys) form c e)) in record { ample = z .0; tight = z .1 }
+      go false e = subst (λ (o : start-call.Out). Kept (o .words) (o .keys)) (sym (start-refused (b .words) (b .keys) form c e)) k
 
   -- the frame stays
   framed : (c : Call) (scratch : List ℕ) → NoStart c → CallBytes c → let o = run c (record { words = b .words; keys = b .keys; scratch = scratch }) .slices in TightAfter (o .words) (o .keys) → Kept (o .words) (o .keys)
@@ -94,7 +93,7 @@ module _ (b : Block) (k : Kept (b .words) (b .keys)) (bytes : Bytes (b .keys)) w
   step-kept t h a = go (t .call) h a
     where
       go : (c : Call) → CallBytes c → AmpleCall c (lent b t) → let o = run c (record { words = b .words; keys = b .keys; scratch = t .scratch }) .slices in Kept (o .words) (o .keys)
-      go (start c) h a = start-keeps c a
+      go (start form c) h a = start-keeps form c a
       go (query q) h a = k
       go (ask q) h a = k
       go (edit (insert u total)) h a = framed (edit (insert u total)) (t .scratch) tt h (insert-tight (b .words) (b .keys) (k .tight) (k .ample) (t .scratch) u total h bytes)
@@ -105,28 +104,28 @@ all-kept : (b : Block) → Kept (b .words) (b .keys) → Bytes (b .keys) → (ts
 all-kept b k bytes [] h a = k
 all-kept b k bytes (t ∷ ts) h a = all-kept (next b t) (step-kept b k bytes t (h .0) (a .0)) (step-bytes b bytes t (h .0)) ts (h .1) (a .1)
 
-module _ (b : Block) (c : Caps) (scratch : List ℕ) (done : startOf (b .words) (b .keys) c .answer ≡ started.Done) (ample : AmpleCaps c) (ts : List Turn) (bytes : AllBytes ts)
-    (starts : AmpleStarts (next b (record { call = start c; scratch = scratch })) ts) where
+module _ (b : Block) (form : ℕ) (c : Caps) (scratch : List ℕ) (done : startOf (b .words) (b .keys) form c .answer ≡ started.Done) (ample : AmpleCaps c) (ts : List Turn) (bytes : AllBytes ts)
+    (starts : AmpleStarts (next b (record { call = start form c; scratch = scratch })) ts) where
   -- the block after the start, and after the calls
   abbrev first : Block
-  first = next b (record { call = start c; scratch = scratch })
+  first = next b (record { call = start form c; scratch = scratch })
 
   abbrev last : Block
   last = after-all first ts
 
-  done-fits : startFits (formOf 1) c (length (b .words)) (length (b .keys)) ≡ true
-  done-fits = go (startFits (formOf 1) c (length (b .words)) (length (b .keys))) refl
+  done-fits : startFitsIn form c (length (b .words)) (length (b .keys)) ≡ true
+  done-fits = go (startFitsIn form c (length (b .words)) (length (b .keys))) refl
     where
-      go : (t : Bool) → startFits (formOf 1) c (length (b .words)) (length (b .keys)) ≡ t → startFits (formOf 1) c (length (b .words)) (length (b .keys)) ≡ true
+      go : (t : Bool) → startFitsIn form c (length (b .words)) (length (b .keys)) ≡ t → startFitsIn form c (length (b .words)) (length (b .keys)) ≡ true
       go true e = e
       go false e =
-          let z : started.Refused ≡ started.Done = ap (λ (o : start-call.Out). o .answer) (sym (start-refused (b .words) (b .keys) c e)) ∙ done in
+          let z : started.Refused ≡ started.Done = ap (λ (o : start-call.Out). o .answer) (sym (start-refused (b .words) (b .keys) form c e)) ∙ done in
           absurd (let y : _≡_ {A = ℕ} 8 0 = ap start-call.startNumber z in omega arith)
 
   last-kept : Kept (last .words) (last .keys)
   last-kept =
-      let z = started-ample (b .words) (b .keys) c done-fits ample in
-      all-kept first (record { ample = z .0; tight = z .1 }) (start-bytes (b .words) (b .keys) c done) ts bytes starts
+      let z = started-ample (b .words) (b .keys) form c done-fits ample in
+      all-kept first (record { ample = z .0; tight = z .1 }) (start-bytes (b .words) (b .keys) form c done) ts bytes starts
 
   -- the capacities are ample still
   pub ample-frame : AmpleFrame (frame (last .words))

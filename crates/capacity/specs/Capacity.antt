@@ -41,7 +41,7 @@ AmpleCaps c = Ample (c .c1) (c .c2) (c .c3) (c .c4) (c .c5)
 
 -- a start that is accepted has such capacities
 abbrev pub AmpleCall : Call → Slices → Type 0
-AmpleCall (calls.start c) s = startOf (s .words) (s .keys) c .answer ≡ started.Done → AmpleCaps c
+AmpleCall (calls.start form c) s = startOf (s .words) (s .keys) form c .answer ≡ started.Done → AmpleCaps c
 AmpleCall (calls.query q) s = Unit {0}
 AmpleCall (calls.ask a) s = Unit {0}
 AmpleCall (calls.edit e) s = Unit {0}

@@ -5,10 +5,7 @@ use mathlib.Core.List.{List}
 use mathlib.Core.Bool.{Bool, true, false}
 use native.Mathlib.Omega.{arith}
 use lib.ListN.{length}
-use lib.Dec.{ltb}
-use borrow.Author.Tests.{ltb-false}
 use Rattle.lists.specs.Scan.{choose}
-use Rattle.frames.specs.Form.{formOf}
 use Rattle.pools.specs.Start.{startNumber}
 use Rattle.pools.specs.declared.start.Started.{Started}
 use Rattle.pools.specs.declared.start.Started.the-variants as started
@@ -22,7 +19,7 @@ use Rattle.whole.proofs.Sounds.{zero-sound}
 use Rattle.writes.specs.declared.leaf_node.Gap.{Gap}
 use Rattle.insert.specs.Plan as insert-plan
 use Rattle.insert.specs.Insert as insert-call
-use Rattle.insert.specs.Insert.{insertOf, insertChecked, insertSound, insertBy}
+use Rattle.insert.specs.Insert.{tooLong, insertOf, insertChecked, insertSound, insertBy}
 use Rattle.insert.specs.declared.answer.Inserted.{Inserted}
 use Rattle.insert.specs.declared.answer.Inserted.the-variants as inserted
 use Rattle.insert.specs.declared.plan.Site.{Site}
@@ -53,9 +50,9 @@ module _ (words keys tag : List ℕ) (total : ℕ) (P : insert-call.Out → Type
   abbrev InsertRefused : Type 0
   InsertRefused = (a : Inserted) (scratch : List ℕ) → insertChange tag total a ≡ nothing → P (insert-call.out a words keys scratch)
 
-  -- a plan for a new tag, of at most the form's longest
+  -- a plan for a new tag, which is not too long
   abbrev InsertNew : Type 0
-  InsertNew = (scratch : List ℕ) → Sound words keys → length tag ≤ formOf 1 .limit → (site : Site) (n : ℕ) (gap : Gap) → insert-plan.planOf (frame words) words keys tag ≡ new.New site n gap
+  InsertNew = (scratch : List ℕ) → Sound words keys → tooLong words keys tag ≡ false → (site : Site) (n : ℕ) (gap : Gap) → insert-plan.planOf (frame words) words keys tag ≡ new.New site n gap
       → P (insert-call.planned (frame words) words keys scratch tag total (new.New site n gap))
 
   -- a plan for a held one
@@ -64,7 +61,7 @@ module _ (words keys tag : List ℕ) (total : ℕ) (P : insert-call.Out → Type
       → P (insert-call.planned (frame words) words keys scratch tag total (new.Over leaf))
 
   module _ (refused : InsertRefused) (fresh : InsertNew) (over : InsertOver) where
-    by-plan : (scratch : List ℕ) → Sound words keys → length tag ≤ formOf 1 .limit → (p : Plan) → insert-plan.planOf (frame words) words keys tag ≡ p
+    by-plan : (scratch : List ℕ) → Sound words keys → tooLong words keys tag ≡ false → (p : Plan) → insert-plan.planOf (frame words) words keys tag ≡ p
         → P (insert-call.planned (frame words) words keys scratch tag total p)
     by-plan scratch s short (new.Over leaf) e = over scratch s leaf e
     by-plan scratch s short (new.New site n gap) e = fresh scratch s short site n gap e
@@ -73,7 +70,7 @@ module _ (words keys tag : List ℕ) (total : ℕ) (P : insert-call.Out → Type
     by-plan scratch s short new.NoRecord e = refused inserted.NoRecord scratch refl
     by-plan scratch s short new.Broken e = refused inserted.Damaged scratch refl
 
-    by-check : (c : check-call.Answer) → (check-call.numberOf (c .result) ≡ 0 → Sound words keys) → length tag ≤ formOf 1 .limit → P (insertBy words keys (c .scratch) tag total (c .result))
+    by-check : (c : check-call.Answer) → (check-call.numberOf (c .result) ≡ 0 → Sound words keys) → tooLong words keys tag ≡ false → P (insertBy words keys (c .scratch) tag total (c .result))
     unfolding insertSound
     by-check c sound short = go (c .result) sound
       where
@@ -84,12 +81,12 @@ module _ (words keys tag : List ℕ) (total : ℕ) (P : insert-call.Out → Type
 
     pub insert-cases : (scratch : List ℕ) → P (insertOf words keys scratch tag total)
     unfolding insertOf insertChecked
-    insert-cases scratch = go (ltb (formOf 1 .limit) (length tag)) refl
+    insert-cases scratch = go (tooLong words keys tag) refl
       where
-        go : (long : Bool) → ltb (formOf 1 .limit) (length tag) ≡ long
+        go : (long : Bool) → tooLong words keys tag ≡ long
             → P (choose long (insert-call.out inserted.TooLong words keys scratch) (insertChecked words keys tag total (checkOf words keys scratch)))
         go true e = refused inserted.TooLong scratch refl
-        go false e = by-check (checkOf words keys scratch) (zero-sound words keys scratch) (ltb-false (formOf 1 .limit) (length tag) e)
+        go false e = by-check (checkOf words keys scratch) (zero-sound words keys scratch) e
 
 -- ── delete ──
 module _ (words keys tag : List ℕ) (P : delete-call.Out → Type 0) where

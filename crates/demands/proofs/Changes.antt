@@ -4,9 +4,7 @@ use mathlib.Core.Path.{_≡_, refl, sym, ap}
 use mathlib.Core.List.{List}
 use mathlib.Core.Option.{some}
 use lib.ListN.{length}
-use Rattle.frames.specs.Form.{formOf}
 use Rattle.frames.specs.Place.{recordAt}
-use Rattle.frames.specs.declared.form.Form.{Form}
 use Rattle.records.specs.Own.{totalOf}
 use Rattle.records.specs.View.{Held}
 use Rattle.art.specs.Listings.{lookup}
@@ -22,7 +20,6 @@ use Rattle.insert.specs.Plan as insert-plan
 use Rattle.insert.specs.Apply.{newWords}
 use Rattle.insert.specs.declared.plan.Site.{Site}
 use Rattle.insert.specs.declared.plan.Plan.the-variants as new
-use Rattle.insert.proofs.Inserts.{one-limit}
 use Rattle.insert.proofs.Sounds as insert-sounds
 use Rattle.insert.proofs.Overs as overs
 use Rattle.insert.specs.Meets.{newTotal}
@@ -32,10 +29,6 @@ use Rattle.delete.specs.declared.plan.Cut.{Cut}
 use Rattle.delete.specs.declared.plan.Plan.the-variants as gone
 use Rattle.delete.proofs.Sounds as delete-sounds
 use Rattle.delete.proofs.Answers as delete-answers
-
--- there is one form
-pub frame-limit : {words keys : List ℕ} → Sound words keys → frame words .form .limit ≡ formOf 1 .limit
-frame-limit {words} {keys} s = one-limit words keys (s .fits)
 
 module _ {words keys : List ℕ} (s : Sound words keys) (tag : List ℕ) (bytes : Bytes tag) where
   -- ── a new tag ──

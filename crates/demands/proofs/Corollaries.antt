@@ -29,6 +29,7 @@ use Rattle.whole.specs.Sound.{Rooted, Sound}
 use Rattle.whole.proofs.Sounds.{used-pool}
 use Rattle.insert.specs.Answer as insert-answer
 use Rattle.insert.specs.Insert as insert-call
+use Rattle.insert.proofs.Calls.{short-fits}
 use Rattle.insert.specs.declared.answer.Inserted.{Inserted}
 use Rattle.insert.specs.declared.answer.Inserted.the-variants as inserted
 use Rattle.delete.specs.Answer as delete-answer
@@ -39,7 +40,7 @@ use Rattle.demands.specs.Calls.{Edit, insert, delete, edit}
 use Rattle.demands.specs.Histories.{Block, next, leaves, nothing, insertChange, deleteChange, tagOf, changeOf, totals, amended, CallBytes}
 use Rattle.demands.specs.Drawn.{drawing}
 use Rattle.demands.specs.Accepts.{turn, Accepted, effect, done}
-use Rattle.demands.proofs.Changes.{frame-limit, insert-sound, over-held}
+use Rattle.demands.proofs.Changes.{insert-sound, over-held}
 use Rattle.demands.proofs.Cases.{insert-cases, delete-cases}
 use Rattle.demands.proofs.Totals.{total-of, totals-sorted, totals-lookup}
 use Rattle.demands.proofs.Steps.{held-sorted, step-sound}
@@ -104,7 +105,7 @@ module _ {words keys : List ℕ} (s : Sound words keys) where
       insert-cases words keys tag total (λ o. insert-answer.numberOf (o .answer) ≡ 0 → insertChange tag total (o .answer) ≡ effect (insert tag total) (lookup tag holds))
       (λ a r e z. absurd (refused-insert tag total a e z))
       (λ r t short site n gap e z.
-      let m = insert-sound s tag bytes key-bytes (subst (λ (m : ℕ). length tag ≤ m) (sym (frame-limit s)) short) e total in
+      let m = insert-sound s tag bytes key-bytes (short-fits words keys tag (s .fits) short) e total in
       let order : Sorted (put tag (record { number = n; total = total }) (held (s .tree))) = subst Sorted (m .1) (held-sorted (m .0 .tree) (m .0 .good)) in
       let unheld : lookup tag (held (s .tree)) ≡ none = lookup-new tag (held (s .tree)) (put-new tag (record { number = n; total = total }) (held (s .tree)) order) in
       ap (effect (insert tag total)) (sym (totals-lookup tag (held (s .tree)) ∙ ap total-of unheld)))

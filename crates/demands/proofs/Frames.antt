@@ -17,11 +17,12 @@ use Rattle.frames.proofs.FormTable.{form-rules}
 use Rattle.frames.proofs.Frames.{totals}
 use Rattle.reading.specs.Answers.{Bytes}
 use Rattle.insert.specs.Insert as insert-call
+use Rattle.insert.proofs.Calls.{short-fits}
 use Rattle.delete.specs.Delete as delete-call
 use Rattle.demands.specs.Calls.{Call, start, query, ask, edit, insert, delete, Slices, run}
 use Rattle.demands.specs.Histories.{Block, Turn, lent, next, after-all, CallBytes, AllBytes}
 use Rattle.demands.specs.Frames.{frameWords, FrameKept, NoStart, NoStarts}
-use Rattle.demands.proofs.Changes.{frame-limit, insert-sound, insert-frame, over-sound, over-frame, delete-sound, delete-frame}
+use Rattle.demands.proofs.Changes.{insert-sound, insert-frame, over-sound, over-frame, delete-sound, delete-frame}
 use Rattle.demands.proofs.Cases.{insert-cases, delete-cases}
 use Rattle.demands.proofs.KeyBytes.{step-bytes}
 
@@ -79,7 +80,7 @@ insert-kept : (words keys scratch tag : List ℕ) (total : ℕ) → CallBytes (e
 insert-kept words keys scratch tag total bytes key-bytes =
     insert-cases words keys tag total (λ o. FrameKept words keys (o .words) (o .keys)) (λ a r e. kept words keys)
     (λ r s short site n gap e.
-    let fits : length tag ≤ frame words .form .limit = subst (λ (m : ℕ). length tag ≤ m) (sym (frame-limit s)) short in
+    let fits : length tag ≤ frame words .form .limit = short-fits words keys tag (s .fits) short in
     fits-same _ _ _ _ (s .fits) (insert-sound s tag bytes key-bytes fits e total .0 .fits) (insert-frame s tag bytes key-bytes fits e total))
     (λ r s leaf e. fits-same _ _ _ _ (s .fits) (over-sound s tag bytes e total .0 .fits) (over-frame s tag bytes e total)) scratch
 
@@ -91,7 +92,7 @@ delete-kept words keys scratch tag bytes =
 
 -- calls after start never change the frame, whatever the memory holds
 pub frame-kept : (c : Call) → NoStart c → CallBytes c → (s : Slices) → Bytes (s .keys) → FrameKept (s .words) (s .keys) (run c s .slices .words) (run c s .slices .keys)
-frame-kept (start c) h b s k = absurd h
+frame-kept (start form c) h b s k = absurd h
 frame-kept (query q) h b s k = kept (s .words) (s .keys)
 frame-kept (ask a) h b s k = kept (s .words) (s .keys)
 frame-kept (edit (insert t total)) h b s k = insert-kept (s .words) (s .keys) (s .scratch) t total b k

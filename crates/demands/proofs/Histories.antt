@@ -60,8 +60,8 @@ history-from b s k l n e m (t ∷ ts) h =
     (subst (λ (k : Listing ℕ). Tallied (amended k c) (counted n c)) e (step-counts b s t (h .0) n (subst (λ (k : Listing ℕ). Tallied k n) (sym e) m))) ts (h .1)
 
 -- from any slices on which a start is accepted
-pub history : (b : Block) (c : Caps) (scratch : List ℕ) → startOf (b .words) (b .keys) c .answer ≡ started.Done → (ts : List Turn) → AllBytes ts
-    → let b₀ = next b (record { call = start c; scratch = scratch }) in Story (after-all b₀ ts) (amended-all b₀ [] ts) (counted-all b₀ (tally 0 0) ts)
-history b c scratch e ts h =
-    let z = start-sound (b .words) (b .keys) c e in
-    history-from (next b (record { call = start c; scratch = scratch })) (z .0) (start-bytes (b .words) (b .keys) c e) [] (tally 0 0) (ap (λ (d : Option (Tree Held)). totals (held d)) (z .1)) refl ts h
+pub history : (b : Block) (form : ℕ) (c : Caps) (scratch : List ℕ) → startOf (b .words) (b .keys) form c .answer ≡ started.Done → (ts : List Turn) → AllBytes ts
+    → let b₀ = next b (record { call = start form c; scratch = scratch }) in Story (after-all b₀ ts) (amended-all b₀ [] ts) (counted-all b₀ (tally 0 0) ts)
+history b form c scratch e ts h =
+    let z = start-sound (b .words) (b .keys) form c e in
+    history-from (next b (record { call = start form c; scratch = scratch })) (z .0) (start-bytes (b .words) (b .keys) form c e) [] (tally 0 0) (ap (λ (d : Option (Tree Held)). totals (held d)) (z .1)) refl ts h

@@ -6,7 +6,6 @@ use mathlib.Core.List.{[], _∷_, head-eq-of-cons-eq, append-cancel-left}
 use mathlib.Core.Option.{some}
 use native.Mathlib.Omega.{arith}
 use lib.ListN.{length, length-append}
-use Rattle.frames.specs.Form.{formOf}
 use Rattle.frames.specs.Frame.{frame}
 use Rattle.frames.specs.declared.frame.Frame.{Frame}
 use Rattle.records.specs.View.{Held}
@@ -27,7 +26,7 @@ use Rattle.insert.specs.declared.plan.Plan.{Plan}
 use Rattle.insert.specs.declared.plan.Plan.the-variants as new
 use Rattle.insert.proofs.Refusals.{plan-answers, only-over, only-clash, only-full, only-lacking, only-new}
 use Rattle.demands.specs.Calls.{Slices}
-use Rattle.demands.specs.Due.{Passed, holds}
+use Rattle.demands.specs.Due.{Passed, holds, Allowed}
 use Rattle.demands.specs.Listed.{InsertsListed}
 use Rattle.demands.proofs.Changes.{over-held}
 use Rattle.demands.proofs.Tested.{insert-passed}
@@ -54,7 +53,7 @@ lookup-known s (e ∷ l) h q = go (fits-dec exact s (e .0)) (lookup-known s l h)
         ap (graver (verdict (meet s (e .0)))) (ih (sym (if-neg (fits-dec exact s (e .0)) i (some (e .1)) (lookup s l)) ∙ q)) ∙ graver-known (verdict (meet s (e .0)))
 
 -- ── insert, by its plan ──
-module _ (s : Slices) (t : Tag) (total : ℕ) (bytes : Bytes t) (fits : length t ≤ formOf 1 .limit) (p : Passed s) where
+module _ (s : Slices) (t : Tag) (total : ℕ) (bytes : Bytes t) (fits : Allowed t s) (p : Passed s) where
   abbrev f : Frame
   f = frame (s .words)
 

@@ -6,11 +6,10 @@ use lib.ListN.{length, replicate}
 use Rattle.lists.specs.Scan.{atMost}
 use Rattle.lists.proofs.Tests.{all-replicate}
 use Rattle.lists.proofs.Parts.{splice-all}
-use Rattle.frames.specs.Form.{formOf}
 use Rattle.frames.specs.declared.frame.Caps.{Caps}
 use Rattle.frames.specs.declared.frame.Frame.{Frame}
 use Rattle.pools.specs.Start as start-call
-use Rattle.pools.specs.Start.{startFits, startOf}
+use Rattle.pools.specs.Start.{startFitsIn, startOf}
 use Rattle.pools.specs.declared.start.Started.the-variants as started
 use Rattle.reading.specs.Answers.{Bytes}
 use Rattle.frames.specs.Frame.{frame}
@@ -32,18 +31,18 @@ key-out-bytes f n keys k =
     tag-bytes (keyOut f n keys) (splice-all (atMost 255) keys (n * limit) (n * limit + limit) (replicate limit 0) (bytes-all keys k) (all-replicate (atMost 255) limit 0 refl))
 
 -- ── the calls ──
-start-by : (words keys : List ℕ) (c : Caps) → Bytes keys → Bytes (startOf words keys c .keys)
+start-by : (words keys : List ℕ) (form : ℕ) (c : Caps) → Bytes keys → Bytes (startOf words keys form c .keys)
 unfolding startOf
-start-by words keys c k = either (λ (o : start-call.Out). Bytes (o .keys)) (startFits (formOf 1) c (length words) (length keys)) _ _ (zeros-bytes (length keys)) k
+start-by words keys form c k = either (λ (o : start-call.Out). Bytes (o .keys)) (startFitsIn form c (length words) (length keys)) _ _ (zeros-bytes (length keys)) k
 
 -- an accepted start writes zeros
-pub start-bytes : (words keys : List ℕ) (c : Caps) → startOf words keys c .answer ≡ started.Done → Bytes (startOf words keys c .keys)
+pub start-bytes : (words keys : List ℕ) (form : ℕ) (c : Caps) → startOf words keys form c .answer ≡ started.Done → Bytes (startOf words keys form c .keys)
 unfolding startOf
-start-bytes words keys c =
-    either (λ (o : start-call.Out). o .answer ≡ started.Done → Bytes (o .keys)) (startFits (formOf 1) c (length words) (length keys)) _ _ (λ e. zeros-bytes (length keys)) (λ e. absurd (refused-done e))
+start-bytes words keys form c =
+    either (λ (o : start-call.Out). o .answer ≡ started.Done → Bytes (o .keys)) (startFitsIn form c (length words) (length keys)) _ _ (λ e. zeros-bytes (length keys)) (λ e. absurd (refused-done e))
 
 bytes-by : (c : Call) (s : Slices) → Bytes (s .keys) → CallBytes c → Bytes (run c s .slices .keys)
-bytes-by (start c) s k h = start-by (s .words) (s .keys) c k
+bytes-by (start form c) s k h = start-by (s .words) (s .keys) form c k
 bytes-by (query q) s k h = k
 bytes-by (ask a) s k h = k
 bytes-by (edit (insert t total)) s k h =

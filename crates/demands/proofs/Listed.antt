@@ -17,7 +17,7 @@ use Rattle.demands.proofs.Inserted.{inserts-listed}
 
 listed-by : (s : Slices) (z : Sound (s .words) (s .keys)) (c : Call) → CallBytes c → Suffices c s → Listed z c (run c s .answer)
 unfolding afterOf
-listed-by s z (calls.start c) b r = tt
+listed-by s z (calls.start form c) b r = tt
 listed-by s z (calls.query (calls.search t)) b r = ap calls.found (sound-reads z .search t b)
 listed-by s z (calls.query (calls.prefix-search t)) b r = ap calls.found (sound-reads z .prefix-search t b)
 listed-by s z (calls.query calls.minimum) b r = ap calls.found (sound-reads z .minimum)

@@ -2,14 +2,14 @@
 use Prim.Native.Nat.{ℕ, _≤_}
 use mathlib.Core.Path.{_≡_, refl, sym, ap, subst, _∙_}
 use mathlib.Core.Logic.{_≢_}
+use mathlib.Core.List.{List}
 use mathlib.Core.Option.{Option, none, some}
-use mathlib.Core.Bool.{Bool, true, false}
+use mathlib.Core.Bool.{Bool, true, false, true≢false, not}
 use native.Mathlib.Omega.{arith}
 use lib.ListN.{length, getD}
-use lib.Dec.{eqb, ltb}
-use borrow.Author.Tests.{eq-eqb, ne-eqb, eqb-true, eqb-false, ltb-true, ltb-false}
+use lib.Dec.{eqb}
+use borrow.Author.Tests.{eq-eqb, ne-eqb, eqb-true, eqb-false, not-true}
 use Rattle.lists.specs.Scan.{choose}
-use Rattle.frames.specs.Form.{formOf}
 use Rattle.frames.specs.Frame.{frameFits, frame}
 use Rattle.frames.specs.Place.{placeAt, inPool, startAt, recordAt}
 use Rattle.frames.specs.declared.frame.Caps.{Caps}
@@ -23,7 +23,7 @@ use Rattle.art.specs.Stores.{Place, leaf-place, inner-place}
 use Rattle.art.specs.Points.{store-of}
 use Rattle.art.proofs.ReadBack.{some-inj}
 use Rattle.pools.specs.Start as start-call
-use Rattle.pools.specs.Start.{startFits, startOf}
+use Rattle.pools.specs.Start.{startFitsIn, startOf}
 use Rattle.view.proofs.Starts as starts
 use Rattle.tree.specs.Answer.{foundNumber, factsNumber, leafFound}
 use Rattle.tree.specs.Arrive.{withFrame}
@@ -47,6 +47,7 @@ use Rattle.range.specs.declared.After.{After}
 use Rattle.pointed.proofs.Sounds.{sound-shown}
 use Rattle.insert.specs.Answer as insert-answer
 use Rattle.insert.specs.Insert as insert-call
+use Rattle.insert.specs.Insert.{tooLong}
 use Rattle.insert.specs.Plan as insert-plan
 use Rattle.insert.specs.declared.answer.Inserted.{Inserted}
 use Rattle.insert.specs.declared.plan.Plan.{Plan}
@@ -61,10 +62,11 @@ use Rattle.delete.specs.declared.answer.Deleted.{Deleted}
 use Rattle.delete.specs.declared.plan.Plan as delete-plans
 use Rattle.delete.specs.declared.plan.Plan.the-variants as gone
 use Rattle.delete.proofs.Answers as delete-answers
-use Rattle.demands.specs.Calls.{Call, start, query, ask, edit, search, prefix-search, minimum, maximum, next-leaf, leaf-facts, leaf-tag, check, first-at-or-after, insert, delete, Slices, number}
+use Rattle.demands.specs.Calls.{Query, search, prefix-search, minimum, maximum, next-leaf, leaf-facts, leaf-tag, Asked, check, first-at-or-after, insert, delete}
+use Rattle.demands.specs.Calls.{Call, start, query, ask, edit, Slices, numberOf, given, checks, number}
 use Rattle.demands.specs.Histories.{CallBytes}
 use Rattle.demands.specs.Due as due
-use Rattle.demands.specs.Due.{Unframed, Fitting, Short, Unsound, Passed, holds, InUse, obeys, nextRef, namesLeaf, nextNamed, Due}
+use Rattle.demands.specs.Due.{Unframed, Fitting, Short, Unsound, Passed, holds, InUse, obeys, nextRef, namesLeaf, nextNamed, Numbered, OnLeaf, of-next, of-facts, Allowed, Due}
 use Rattle.demands.proofs.Changes.{over-held}
 use Rattle.demands.proofs.Inserted.{inserts-listed}
 use Rattle.demands.proofs.Reading.{sound-reads}
@@ -130,9 +132,9 @@ module _ (s : Slices) (n : ℕ) where
       ∙ at-number (placeAt (nextRef s n)) b e
 
 -- ── start ──
-start-number : (s : Slices) (c : Caps) (b : Bool) → startFits (formOf 1) c (length (s .words)) (length (s .keys)) ≡ b → start-call.startNumber (startOf (s .words) (s .keys) c .answer) ≡ choose {A = ℕ} b 0 8
-start-number s c true e = ap start-call.startNumber (starts.start-done (s .words) (s .keys) c e)
-start-number s c false e = ap (λ (o : start-call.Out). start-call.startNumber (o .answer)) (starts.start-refused (s .words) (s .keys) c e)
+start-number : (s : Slices) (form : ℕ) (c : Caps) (b : Bool) → startFitsIn form c (length (s .words)) (length (s .keys)) ≡ b → start-call.startNumber (startOf (s .words) (s .keys) form c .answer) ≡ choose {A = ℕ} b 0 8
+start-number s form c true e = ap start-call.startNumber (starts.start-done (s .words) (s .keys) form c e)
+start-number s form c false e = ap (λ (o : start-call.Out). start-call.startNumber (o .answer)) (starts.start-refused (s .words) (s .keys) form c e)
 
 -- ── first at or after ──
 after-by : (s : Slices) (t : Tag) (c : Checked) → checkOf (s .words) (s .keys) (s .scratch) .result ≡ c → afterOf (s .words) (s .keys) (s .scratch) t .result ≡ afterCheck (s .words) (s .keys) t c
@@ -159,9 +161,61 @@ module _ (s : Slices) (t : Tag) (bytes : Bytes t) (p : Passed s) where
       go gone.Missing i = let z : none ≡ some h = sym (delete-answers.missing-held (p .sound) t bytes i) ∙ e in let y : _≡_ {A = ℕ} 0 1 = cc in absurd (omega arith)
       go gone.Broken i = absurd (delete-answers.never-broken (p .sound) t bytes i)
 
+-- ── a class of calls ──
+-- every query that gives a number gives 6 where the frame does not fit
+query-number : (q : Query) (s : Slices) → Numbered q → Unframed s → number (query q) s ≡ some 6
+query-number (search t) s h e = ap (λ (a : Found). some (foundNumber a)) (unframed-is s e _ _)
+query-number (prefix-search t) s h e = ap (λ (a : Found). some (foundNumber a)) (unframed-is s e _ _)
+query-number minimum s h e = ap (λ (a : Found). some (foundNumber a)) (unframed-is s e _ _)
+query-number maximum s h e = ap (λ (a : Found). some (foundNumber a)) (unframed-is s e _ _)
+query-number (next-leaf n) s h e = ap (λ (a : Found). some (foundNumber a)) (unframed-is s e _ _)
+query-number (leaf-facts n) s h e = ap (λ (a : Facts). some (factsNumber a)) (unframed-is s e _ _)
+query-number (leaf-tag n) s h e = absurd h
+
+-- what the two calls on a leaf number refuse
+abbrev refusal : LeafState → ℕ
+refusal (Good at) = 0
+refusal Broken = 6
+refusal NoLeaf = 9
+
+-- a leaf that is refused, by either call
+leaf-number : (s : Slices) {q : Query} {n : ℕ} → OnLeaf q n → frameFits (s .words) (s .keys) ≡ true → (x : LeafState) → state s n ≡ x → refusal x ≢ 0 → number (query q) s ≡ some (refusal x)
+leaf-number s (of-next n) fits (Good at) e h = absurd (h refl)
+leaf-number s (of-next n) fits Broken e h = ap (λ (a : Found). some (foundNumber a)) (next-by s n fits Broken e)
+leaf-number s (of-next n) fits NoLeaf e h = ap (λ (a : Found). some (foundNumber a)) (next-by s n fits NoLeaf e)
+leaf-number s (of-facts n) fits (Good at) e h = absurd (h refl)
+leaf-number s (of-facts n) fits Broken e h = ap (λ (a : Facts). some (factsNumber a)) (facts-by s n fits Broken e)
+leaf-number s (of-facts n) fits NoLeaf e h = ap (λ (a : Facts). some (factsNumber a)) (facts-by s n fits NoLeaf e)
+
+-- what the check refuses, the calls after it refuse with the same number
+asked-refused : (a : Asked) (words keys : List ℕ) (r : Checked) → check-call.numberOf r ≢ 0 → numberOf (given a words keys r) ≡ some (check-call.numberOf r)
+asked-refused check words keys r h = refl
+asked-refused (first-at-or-after t) words keys checked.Sound h = absurd (h refl)
+asked-refused (first-at-or-after t) words keys checked.Damaged h = refl
+asked-refused (first-at-or-after t) words keys checked.ShortScratch h = refl
+
+inserted-refused : (words keys scratch : List ℕ) (t : Tag) (total : ℕ) (r : Checked) → check-call.numberOf r ≢ 0
+    → insert-answer.numberOf (insert-call.insertBy words keys scratch t total r .answer) ≡ check-call.numberOf r
+inserted-refused words keys scratch t total checked.Sound h = absurd (h refl)
+inserted-refused words keys scratch t total checked.Damaged h = refl
+inserted-refused words keys scratch t total checked.ShortScratch h = refl
+
+deleted-refused : (words keys scratch : List ℕ) (t : Tag) (r : Checked) → check-call.numberOf r ≢ 0 → delete-answer.numberOf (delete-call.deleteBy words keys scratch t r .answer) ≡ check-call.numberOf r
+deleted-refused words keys scratch t checked.Sound h = absurd (h refl)
+deleted-refused words keys scratch t checked.Damaged h = refl
+deleted-refused words keys scratch t checked.ShortScratch h = refl
+
+checked-number : (c : Call) (s : Slices) → checks c s ≡ true → (r : Checked) → checkOf (s .words) (s .keys) (s .scratch) .result ≡ r → check-call.numberOf r ≢ 0 → number c s ≡ some (check-call.numberOf r)
+checked-number (start form c) s h r e n = absurd (true≢false (sym h))
+checked-number (query q) s h r e n = absurd (true≢false (sym h))
+checked-number (ask a) s h r e n = ap (λ (x : Checked). numberOf (given a (s .words) (s .keys) x)) e ∙ asked-refused a (s .words) (s .keys) r n
+checked-number (edit (insert t total)) s h r e n =
+    ap some (ap insert-answer.numberOf (insert-by s t total (not-true _ h) r e) ∙ inserted-refused (s .words) (s .keys) _ t total r n)
+checked-number (edit (delete t)) s h r e n = ap some (ap delete-answer.numberOf (delete-by s t r e) ∙ deleted-refused (s .words) (s .keys) _ t r n)
+
 -- ── each row's number is given where its condition holds ──
 -- a tag that is judged as held has a total
-over-number : (s : Slices) (t : Tag) (total : ℕ) (bytes : Bytes t) (fits : length t ≤ formOf 1 .limit) (p : Passed s) → judge t (holds (p .sound)) ≡ known
+over-number : (s : Slices) (t : Tag) (total : ℕ) (bytes : Bytes t) (fits : Allowed t s) (p : Passed s) → judge t (holds (p .sound)) ≡ known
     → insert-answer.numberOf (insert-call.insertOf (s .words) (s .keys) (s .scratch) t total .answer) ≡ 0
 over-number s t total bytes fits p e =
     let z = p .sound in
@@ -172,57 +226,40 @@ over-number s t total bytes fits p e =
 
 pub due-number : {c : Call} {s : Slices} {n : ℕ} → CallBytes c → Due c s n → number c s ≡ some n
 unfolding afterOf
-due-number b (due.start-refused {c} {s} e) = ap some (start-number s c false e)
-due-number b (due.start-done {c} {s} e) = ap some (start-number s c true e)
-due-number b (due.search-unframed {t} {s} e) = ap (λ (a : Found). some (foundNumber a)) (unframed-is s e _ _)
+due-number b (due.start-refused {form} {c} {s} e) = ap some (start-number s form c false e)
+due-number b (due.start-done {form} {c} {s} e) = ap some (start-number s form c true e)
+due-number b (due.query-unframed {q} {s} h e) = query-number q s h e
+due-number b (due.leaf-outside {q} {n} {s} k fits e) = leaf-number s k fits NoLeaf (outside-state s n e) (λ z. omega arith)
+due-number b (due.leaf-free {q} {n} {s} k fits p e) = leaf-number s k fits NoLeaf (free-state s n p e) (λ z. omega arith)
+due-number b (due.leaf-broken {q} {n} {s} k u r) = leaf-number s k (u .fits) Broken (broken-state s n u r) (λ z. omega arith)
+due-number b (due.checked-unframed {c} {s} h e) = checked-number c s h checked.Damaged (check-unframed s e) (λ z. omega arith)
+due-number b (due.checked-short {c} {s} h e) = checked-number c s h checked.ShortScratch (check-short s e) (λ z. omega arith)
+due-number b (due.checked-unsound {c} {s} h e) = checked-number c s h checked.Damaged (check-unsound s e) (λ z. omega arith)
 due-number b (due.search-walked {t} {s} fits m) = ap some (ap foundNumber (framed-is s fits _ _) ∙ meets-number (frame (s .words)) (s .words) (s .keys) t Exact m)
 due-number b (due.search-missing {t} {s} z e) = ap (λ (a : Found). some (foundNumber a)) (sound-reads z .search t b ∙ ap answerOf e)
 due-number b (due.search-found {t} {s} z h e) = ap (λ (a : Found). some (foundNumber a)) (sound-reads z .search t b ∙ ap answerOf e)
-due-number b (due.prefix-unframed {t} {s} e) = ap (λ (a : Found). some (foundNumber a)) (unframed-is s e _ _)
 due-number b (due.prefix-walked {t} {s} fits m) = ap some (ap foundNumber (framed-is s fits _ _) ∙ meets-number (frame (s .words)) (s .words) (s .keys) t Begin m)
 due-number b (due.prefix-missing {t} {s} z e) = ap (λ (a : Found). some (foundNumber a)) (sound-reads z .prefix-search t b ∙ ap answerOf e)
 due-number b (due.prefix-found {t} {s} z h e) = ap (λ (a : Found). some (foundNumber a)) (sound-reads z .prefix-search t b ∙ ap answerOf e)
-due-number b (due.minimum-unframed {s} e) = ap (λ (a : Found). some (foundNumber a)) (unframed-is s e _ _)
 due-number b (due.minimum-walked {s} fits m) = ap some (ap foundNumber (framed-is s fits _ _) ∙ ends-number (frame (s .words)) (s .words) (s .keys) Low m)
 due-number b (due.minimum-missing {s} z e) = ap (λ (a : Found). some (foundNumber a)) (sound-reads z .minimum ∙ ap answerOf e)
 due-number b (due.minimum-found {s} z h e) = ap (λ (a : Found). some (foundNumber a)) (sound-reads z .minimum ∙ ap answerOf e)
-due-number b (due.maximum-unframed {s} e) = ap (λ (a : Found). some (foundNumber a)) (unframed-is s e _ _)
 due-number b (due.maximum-walked {s} fits m) = ap some (ap foundNumber (framed-is s fits _ _) ∙ ends-number (frame (s .words)) (s .words) (s .keys) High m)
 due-number b (due.maximum-missing {s} z e) = ap (λ (a : Found). some (foundNumber a)) (sound-reads z .maximum ∙ ap answerOf e)
 due-number b (due.maximum-found {s} z h e) = ap (λ (a : Found). some (foundNumber a)) (sound-reads z .maximum ∙ ap answerOf e)
-due-number b (due.next-unframed {n} {s} e) = ap (λ (a : Found). some (foundNumber a)) (unframed-is s e _ _)
-due-number b (due.next-outside {n} {s} fits e) = ap (λ (a : Found). some (foundNumber a)) (next-by s n fits NoLeaf (outside-state s n e))
-due-number b (due.next-free {n} {s} fits p e) = ap (λ (a : Found). some (foundNumber a)) (next-by s n fits NoLeaf (free-state s n p e))
-due-number b (due.next-broken {n} {s} u r) = ap (λ (a : Found). some (foundNumber a)) (next-by s n (u .fits) Broken (broken-state s n u r))
 due-number b (due.next-unnamed {n} {s} u r ne e) = ap some (next-names s n u r ne false e)
 due-number b (due.next-end {n} {s} u r e) = ap some (next-end s n u r e)
 due-number b (due.next-done {n} {s} u r ne e) = ap some (next-names s n u r ne true e)
-due-number b (due.facts-unframed {n} {s} e) = ap (λ (a : Facts). some (factsNumber a)) (unframed-is s e _ _)
-due-number b (due.facts-outside {n} {s} fits e) = ap (λ (a : Facts). some (factsNumber a)) (facts-by s n fits NoLeaf (outside-state s n e))
-due-number b (due.facts-free {n} {s} fits p e) = ap (λ (a : Facts). some (factsNumber a)) (facts-by s n fits NoLeaf (free-state s n p e))
-due-number b (due.facts-broken {n} {s} u r) = ap (λ (a : Facts). some (factsNumber a)) (facts-by s n (u .fits) Broken (broken-state s n u r))
 due-number b (due.facts-done {n} {s} u r) = ap (λ (a : Facts). some (factsNumber a)) (facts-by s n (u .fits) _ (good-state s n u r))
-due-number b (due.check-unframed {s} e) = ap (λ (a : Checked). some (check-call.numberOf a)) (check-unframed s e)
-due-number b (due.check-short {s} h) = ap (λ (a : Checked). some (check-call.numberOf a)) (check-short s h)
-due-number b (due.check-unsound {s} h) = ap (λ (a : Checked). some (check-call.numberOf a)) (check-unsound s h)
 due-number b (due.check-sound {s} p) = ap (λ (a : Checked). some (check-call.numberOf a)) (check-passed s p)
-due-number b (due.after-unframed {t} {s} e) = ap (λ (a : After). some (after-call.numberOf a)) (after-by s t checked.Damaged (check-unframed s e))
-due-number b (due.after-short {t} {s} h) = ap (λ (a : After). some (after-call.numberOf a)) (after-by s t checked.ShortScratch (check-short s h))
-due-number b (due.after-unsound {t} {s} h) = ap (λ (a : After). some (after-call.numberOf a)) (after-by s t checked.Damaged (check-unsound s h))
 due-number b (due.after-missing {t} {s} p e) = ap (λ (a : After). some (after-call.numberOf a)) (after-passed s t p ∙ ap afterIs e)
 due-number b (due.after-found {t} {s} p h e) = ap (λ (a : After). some (after-call.numberOf a)) (after-passed s t p ∙ ap afterIs e)
 due-number b (due.insert-long {t} {total} {s} l) = ap (λ (a : Inserted). some (insert-answer.numberOf a)) (insert-too-long s t total l)
-due-number b (due.insert-unframed {t} {total} {s} l e) = ap (λ (a : Inserted). some (insert-answer.numberOf a)) (insert-by s t total l checked.Damaged (check-unframed s e))
-due-number b (due.insert-short {t} {total} {s} l h) = ap (λ (a : Inserted). some (insert-answer.numberOf a)) (insert-by s t total l checked.ShortScratch (check-short s h))
-due-number b (due.insert-unsound {t} {total} {s} l h) = ap (λ (a : Inserted). some (insert-answer.numberOf a)) (insert-by s t total l checked.Damaged (check-unsound s h))
 due-number b (due.insert-over {t} {total} {s} l p e) = ap some (over-number s t total b l p e)
 due-number b (due.insert-clash {t} {total} {s} l p e) = ap (λ (a : Inserted). some (insert-answer.numberOf a)) (inserts-listed s t total b l p .clashes e)
 due-number b (due.insert-full {t} {total} {s} l p e a) = ap (λ (a : Inserted). some (insert-answer.numberOf a)) (inserts-listed s t total b l p .full e a)
 due-number b (due.insert-lacking {t} {total} {s} l p e a k) = ap (λ (a : Inserted). some (insert-answer.numberOf a)) (inserts-listed s t total b l p .lacks e a k)
 due-number b (due.insert-new {t} {total} {s} l p e a k) = ap (λ (a : Inserted). some (insert-answer.numberOf a)) (inserts-listed s t total b l p .new e a k)
-due-number b (due.delete-unframed {t} {s} e) = ap (λ (a : Deleted). some (delete-answer.numberOf a)) (delete-by s t checked.Damaged (check-unframed s e))
-due-number b (due.delete-short {t} {s} h) = ap (λ (a : Deleted). some (delete-answer.numberOf a)) (delete-by s t checked.ShortScratch (check-short s h))
-due-number b (due.delete-unsound {t} {s} h) = ap (λ (a : Deleted). some (delete-answer.numberOf a)) (delete-by s t checked.Damaged (check-unsound s h))
 due-number b (due.delete-missing {t} {s} p e) = ap some (delete-number s t b p gone.Missing (delete-answers.held-missing (p .sound) t b e))
 due-number b (due.delete-held {t} {s} p h e) = ap some (delete-done s t b p h e)
 
@@ -236,41 +273,37 @@ by-found : {c : Call} {s : Slices} (o : Option Held) {o′ : Option Held} → o�
 by-found none e miss hit = (1, miss e)
 by-found (some h) e miss hit = (0, hit h e)
 
--- by the frame, then as the walk meets it
-by-frame : {c : Call} {s : Slices} → (Unframed s → Due c s 6) → (Fitting s → Row c s) → Row c s
-by-frame {c} {s} no-frame walked = go (frameFits (s .words) (s .keys)) refl
+-- a query: by the frame, then as the walk meets it
+by-frame : {q : Query} {s : Slices} → Numbered q → (Fitting s → Row (query q) s) → Row (query q) s
+by-frame {q} {s} k walked = go (frameFits (s .words) (s .keys)) refl
   where
-    go : (b : Bool) → frameFits (s .words) (s .keys) ≡ b → Row c s
-    go false e = (6, no-frame e)
+    go : (b : Bool) → frameFits (s .words) (s .keys) ≡ b → Row (query q) s
+    go false e = (6, due.query-unframed k e)
     go true e = walked e
 
--- by frame, scratch and soundness
-by-tests : {c : Call} {s : Slices} → (Unframed s → Due c s 6) → (Short s → Due c s 7) → (Unsound s → Due c s 6) → (Passed s → Row c s) → Tests s → Row c s
-by-tests a b d go (unframed e) = (6, a e)
-by-tests a b d go (short h) = (7, b h)
-by-tests a b d go (unsound h) = (6, d h)
-by-tests a b d go (passed p) = go p
+-- a call that gets to the check: by frame, scratch and soundness
+by-tests : {c : Call} {s : Slices} → checks c s ≡ true → (Passed s → Row c s) → Tests s → Row c s
+by-tests h go (unframed e) = (6, due.checked-unframed h e)
+by-tests h go (short e) = (7, due.checked-short h e)
+by-tests h go (unsound e) = (6, due.checked-unsound h e)
+by-tests h go (passed p) = go p
 
-start-row : (c : Caps) (s : Slices) (b : Bool) → startFits (formOf 1) c (length (s .words)) (length (s .keys)) ≡ b → Row (start c) s
-start-row c s true e = (0, due.start-done e)
-start-row c s false e = (8, due.start-refused e)
+start-row : (form : ℕ) (c : Caps) (s : Slices) (b : Bool) → startFitsIn form c (length (s .words)) (length (s .keys)) ≡ b → Row (start form c) s
+start-row form c s true e = (0, due.start-done e)
+start-row form c s false e = (8, due.start-refused e)
 
 -- a leaf number: the frame, the pool, word 0 and the rule
-by-leaf : {c : Call} (s : Slices) (n : ℕ) → (Unframed s → Due c s 6) → (frameFits (s .words) (s .keys) ≡ true → inPool (frame (s .words)) (leaf-place n) ≡ false → Due c s 9)
-    → (frameFits (s .words) (s .keys) ≡ true → inPool (frame (s .words)) (leaf-place n) ≡ true → getD (recordAt (frame (s .words)) (s .words) (leaf-place n)) 0 0 ≡ 0 → Due c s 9)
-    → (InUse s n → obeys s n ≡ false → Due c s 6) → (InUse s n → obeys s n ≡ true → Row c s) → Row c s
-by-leaf {c} s n no-frame outside unused broken good =
-    go (frameFits (s .words) (s .keys)) refl (inPool (frame (s .words)) (leaf-place n)) refl (eqb (getD (recordAt (frame (s .words)) (s .words) (leaf-place n)) 0 0) 0) refl (obeys s n) refl
+by-leaf : {q : Query} {n : ℕ} (s : Slices) → Numbered q → OnLeaf q n → (InUse s n → obeys s n ≡ true → Row (query q) s) → Row (query q) s
+by-leaf {q} {n} s m k good = by-frame m (λ p. go p (inPool (frame (s .words)) (leaf-place n)) refl (eqb word 0) refl (obeys s n) refl)
   where
     word : ℕ
     word = getD (recordAt (frame (s .words)) (s .words) (leaf-place n)) 0 0
 
-    go : (a : Bool) → frameFits (s .words) (s .keys) ≡ a → (b : Bool) → inPool (frame (s .words)) (leaf-place n) ≡ b → (d : Bool) → eqb word 0 ≡ d → (r : Bool) → obeys s n ≡ r → Row c s
-    go false p b q d i r j = (6, no-frame p)
-    go true p false q d i r j = (9, outside p q)
-    go true p true q true i r j = (9, unused p q (eqb-true word 0 i))
-    go true p true q false i false j = (6, broken (record { fits = p; pool = q; used = eqb-false word 0 i }) j)
-    go true p true q false i true j = good (record { fits = p; pool = q; used = eqb-false word 0 i }) j
+    go : Fitting s → (b : Bool) → inPool (frame (s .words)) (leaf-place n) ≡ b → (d : Bool) → eqb word 0 ≡ d → (r : Bool) → obeys s n ≡ r → Row (query q) s
+    go p false e d i r j = (9, due.leaf-outside k p e)
+    go p true e true i r j = (9, due.leaf-free k p e (eqb-true word 0 i))
+    go p true e false i false j = (6, due.leaf-broken k (record { fits = p; pool = e; used = eqb-false word 0 i }) j)
+    go p true e false i true j = good (record { fits = p; pool = e; used = eqb-false word 0 i }) j
 
 next-row : (s : Slices) (n : ℕ) → InUse s n → obeys s n ≡ true → Row (query (next-leaf n)) s
 next-row s n u r = go (eqb (nextRef s n) 0) refl (nextNamed s (nextRef s n)) refl
@@ -280,7 +313,7 @@ next-row s n u r = go (eqb (nextRef s n) 0) refl (nextNamed s (nextRef s n)) ref
     go false e true i = (0, due.next-done u r (eqb-false (nextRef s n) 0 e) i)
     go false e false i = (6, due.next-unnamed u r (eqb-false (nextRef s n) 0 e) i)
 
-plan-row : (s : Slices) (t : Tag) (total : ℕ) → length t ≤ formOf 1 .limit → (p : Passed s) (q : Plan)
+plan-row : (s : Slices) (t : Tag) (total : ℕ) → Allowed t s → (p : Passed s) (q : Plan)
     → room.Answers (judge t (holds (p .sound))) (room.LeavesFull (frame (s .words)) (store-of (p .sound .tree))) (room.Lacking (frame (s .words)) (p .sound .tree) t) q → Row (edit (insert t total)) s
 plan-row s t total l p (new.Over leaf) h = (0, due.insert-over l p h)
 plan-row s t total l p (new.New site n gap) h = (0, due.insert-new l p (h .0) (h .1) (h .2))
@@ -289,28 +322,26 @@ plan-row s t total l p new.NoLeaf h = (4, due.insert-full l p (h .0) (h .1))
 plan-row s t total l p new.NoRecord h = (5, due.insert-lacking l p (h .0) (h .1) (h .2))
 plan-row s t total l p new.Broken h = absurd h
 
-insert-row : (s : Slices) (t : Tag) (total : ℕ) → Bytes t → (b : Bool) → ltb (formOf 1 .limit) (length t) ≡ b → Row (edit (insert t total)) s
-insert-row s t total bytes true e = (2, due.insert-long (ltb-true (formOf 1 .limit) (length t) e))
+insert-row : (s : Slices) (t : Tag) (total : ℕ) → Bytes t → (b : Bool) → tooLong (s .words) (s .keys) t ≡ b → Row (edit (insert t total)) s
+insert-row s t total bytes true e = (2, due.insert-long e)
 insert-row s t total bytes false e =
-    let l : length t ≤ formOf 1 .limit = ltb-false (formOf 1 .limit) (length t) e in
-    by-tests (due.insert-unframed l) (due.insert-short l) (due.insert-unsound l)
-    (λ p. plan-row s t total l p (insert-plan.planOf (frame (s .words)) (s .words) (s .keys) t) (refusals.plan-answers (p .sound) t bytes)) (tested s)
+    by-tests (ap not e) (λ p. plan-row s t total e p (insert-plan.planOf (frame (s .words)) (s .words) (s .keys) t) (refusals.plan-answers (p .sound) t bytes)) (tested s)
 
 due-row : (c : Call) (s : Slices) (n : ℕ) → CallBytes c → number c s ≡ some n → Row c s
-due-row (start c) s n b i = start-row c s (startFits (formOf 1) c (length (s .words)) (length (s .keys))) refl
-due-row (query (search t)) s n b i = by-frame due.search-unframed (λ e. let m = met (frame (s .words)) (s .words) (s .keys) t Exact in (m .0, due.search-walked e (m .1)))
-due-row (query (prefix-search t)) s n b i = by-frame due.prefix-unframed (λ e. let m = met (frame (s .words)) (s .words) (s .keys) t Begin in (m .0, due.prefix-walked e (m .1)))
-due-row (query minimum) s n b i = by-frame due.minimum-unframed (λ e. let m = ended (frame (s .words)) (s .words) (s .keys) Low in (m .0, due.minimum-walked e (m .1)))
-due-row (query maximum) s n b i = by-frame due.maximum-unframed (λ e. let m = ended (frame (s .words)) (s .words) (s .keys) High in (m .0, due.maximum-walked e (m .1)))
-due-row (query (next-leaf k)) s n b i = by-leaf s k due.next-unframed due.next-outside due.next-free due.next-broken (next-row s k)
-due-row (query (leaf-facts k)) s n b i = by-leaf s k due.facts-unframed due.facts-outside due.facts-free due.facts-broken (λ u r. (0, due.facts-done u r))
+due-row (start form c) s n b i = start-row form c s (startFitsIn form c (length (s .words)) (length (s .keys))) refl
+due-row (query (search t)) s n b i = by-frame tt (λ e. let m = met (frame (s .words)) (s .words) (s .keys) t Exact in (m .0, due.search-walked e (m .1)))
+due-row (query (prefix-search t)) s n b i = by-frame tt (λ e. let m = met (frame (s .words)) (s .words) (s .keys) t Begin in (m .0, due.prefix-walked e (m .1)))
+due-row (query minimum) s n b i = by-frame tt (λ e. let m = ended (frame (s .words)) (s .words) (s .keys) Low in (m .0, due.minimum-walked e (m .1)))
+due-row (query maximum) s n b i = by-frame tt (λ e. let m = ended (frame (s .words)) (s .words) (s .keys) High in (m .0, due.maximum-walked e (m .1)))
+due-row (query (next-leaf k)) s n b i = by-leaf s tt (of-next k) (next-row s k)
+due-row (query (leaf-facts k)) s n b i = by-leaf s tt (of-facts k) (λ u r. (0, due.facts-done u r))
 due-row (query (leaf-tag k)) s n b i = let z : _≡_ {A = ℕ} 0 1 = cc in absurd (omega arith)
-due-row (ask check) s n b i = by-tests due.check-unframed due.check-short due.check-unsound (λ p. (0, due.check-sound p)) (tested s)
+due-row (ask check) s n b i = by-tests refl (λ p. (0, due.check-sound p)) (tested s)
 due-row (ask (first-at-or-after t)) s n b i =
-    by-tests due.after-unframed due.after-short due.after-unsound (λ p. by-found (after t (holds (p .sound))) refl (due.after-missing p) (due.after-found p)) (tested s)
-due-row (edit (insert t total)) s n b i = insert-row s t total b (ltb (formOf 1 .limit) (length t)) refl
+    by-tests refl (λ p. by-found (after t (holds (p .sound))) refl (due.after-missing p) (due.after-found p)) (tested s)
+due-row (edit (insert t total)) s n b i = insert-row s t total b (tooLong (s .words) (s .keys) t) refl
 due-row (edit (delete t)) s n b i =
-    by-tests due.delete-unframed due.delete-short due.delete-unsound (λ p. by-found (lookup t (holds (p .sound))) refl (due.delete-missing p) (due.delete-held p)) (tested s)
+    by-tests refl (λ p. by-found (lookup t (holds (p .sound))) refl (due.delete-missing p) (due.delete-held p)) (tested s)
 
 -- so every number that any call gives, on any block, is given where a row of the table gives it
 pub number-due : (c : Call) (s : Slices) (n : ℕ) → CallBytes c → number c s ≡ some n → Due c s n

@@ -11,7 +11,7 @@ use Rattle.demands.specs.Calls.{Slices, Answer, Outcome, outcome, read, 
 -- what a contract allows is the outcome that `run` gives
 only : (c : Call) (s : Slices) (o : Outcome) → Promise c s o → o ≡ run c s
 unfolding after-call.afterOf
-only (start c) s o p = p .1 ∙ ap (λ (x : start-call.Out). outcome (started (x .answer)) (x .words) (x .keys) (s .scratch)) (p .2)
+only (start form c) s o p = p .1 ∙ ap (λ (x : start-call.Out). outcome (started (x .answer)) (x .words) (x .keys) (s .scratch)) (p .2)
 only (query q) s o p = p .1 ∙ ap (λ (a : Answer). read a s) (p .2)
 only (ask check) s o p = p .1 ∙ ap (λ (x : check-call.Answer). outcome (checked (x .result)) (s .words) (s .keys) (x .scratch)) (p .2)
 only (ask (first-at-or-after t)) s o p = p .1 ∙ ap (λ (x : after-call.Answer). outcome (after (x .result)) (s .words) (s .keys) (x .scratch)) (p .2)
@@ -25,7 +25,7 @@ one-outcome c s o o′ p q = only c s o p ∙ sym (only c s o′ q)
 -- and there is one
 pub promised : (c : Call) (s : Slices) → Promise c s (run c s)
 unfolding after-call.afterOf
-promised (start c) s = (start-call.startOf (s .words) (s .keys) c .answer, refl, refl)
+promised (start form c) s = (start-call.startOf (s .words) (s .keys) form c .answer, refl, refl)
 promised (query q) s = (_, refl, refl)
 promised (ask check) s = (check-call.checkOf (s .words) (s .keys) (s .scratch) .result, refl, refl)
 promised (ask (first-at-or-after t)) s = (after-call.afterOf (s .words) (s .keys) (s .scratch) t .result, refl, refl)

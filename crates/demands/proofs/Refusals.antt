@@ -4,18 +4,17 @@ use mathlib.Core.Path.{_≡_, refl, sym, ap, _∙_}
 use mathlib.Core.Logic.{_≢_}
 use mathlib.Core.List.{List}
 use mathlib.Core.Option.{some}
-use mathlib.Core.Bool.{Bool, true, false, _&&_}
+use mathlib.Core.Bool.{Bool, true, false, not, _&&_}
 use lib.ListN.{length}
 use lib.Dec.{leb, ltb}
 use borrow.Author.Tests.{le-leb, lt-leb, ltb-true, ltb-false}
 use Rattle.lists.specs.Scan.{choose}
-use Rattle.frames.specs.Form.{formOf}
 use Rattle.frames.specs.Frame.{frameFits, frame}
 use Rattle.frames.specs.declared.frame.Caps.{Caps}
 use Rattle.frames.specs.declared.frame.Frame.{Frame}
 use Rattle.art.proofs.ReadBack.{some-inj}
 use Rattle.pools.specs.Start as start-call
-use Rattle.pools.specs.Start.{startFits, startOf}
+use Rattle.pools.specs.Start.{startFitsIn, startOf}
 use Rattle.whole.specs.Marks.{placesIn}
 use Rattle.whole.specs.Check as check-call
 use Rattle.whole.specs.Check.{checkOf, cleared, wholeBy}
@@ -23,7 +22,7 @@ use Rattle.whole.specs.declared.check.Checked.{Checked}
 use Rattle.whole.specs.declared.check.Checked.the-variants as checked
 use Rattle.insert.specs.Answer as insert-answer
 use Rattle.insert.specs.Insert as insert-call
-use Rattle.insert.specs.Insert.{insertOf, insertChecked, insertSound, insertBy}
+use Rattle.insert.specs.Insert.{tooLong, insertOf, insertChecked, insertSound, insertBy}
 use Rattle.insert.specs.Plan as insert-plan
 use Rattle.insert.specs.declared.answer.Inserted.the-variants as inserted
 use Rattle.insert.specs.declared.plan.Plan as insert-plans
@@ -47,9 +46,9 @@ Same words keys w k = (w ≡ words) × (k ≡ keys)
 abbrev StartKept : (words keys : List ℕ) → start-call.Out → Type 0
 StartKept words keys o = start-call.startNumber (o .answer) ≢ 0 → Same words keys (o .words) (o .keys)
 
-start-kept : (words keys : List ℕ) (c : Caps) → StartKept words keys (startOf words keys c)
+start-kept : (words keys : List ℕ) (form : ℕ) (c : Caps) → StartKept words keys (startOf words keys form c)
 unfolding startOf
-start-kept words keys c = either (StartKept words keys) (startFits (formOf 1) c (length words) (length keys)) _ _ (λ h. absurd (h refl)) (λ h. (refl, refl))
+start-kept words keys form c = either (StartKept words keys) (startFitsIn form c (length words) (length keys)) _ _ (λ h. absurd (h refl)) (λ h. (refl, refl))
 
 -- ── insert ──
 insert-kept : (words keys scratch tag : List ℕ) (total : ℕ) → let o = insertOf words keys scratch tag total in insert-answer.numberOf (o .answer) ≢ 0 → Same words keys (o .words) (o .keys)
@@ -93,7 +92,7 @@ module _ (words keys tag : List ℕ) where
 -- ── all calls ──
 -- a refusal changes no word and no key byte, whatever the memory holds
 pub refused-same : (c : Call) (s : Slices) (n : ℕ) → number c s ≡ some n → n ≢ 0 → (run c s .slices .words ≡ s .words) × (run c s .slices .keys ≡ s .keys)
-refused-same (start c) s n e h = start-kept (s .words) (s .keys) c (λ z. h (sym (some-inj e) ∙ z))
+refused-same (start form c) s n e h = start-kept (s .words) (s .keys) form c (λ z. h (sym (some-inj e) ∙ z))
 refused-same (query q) s n e h = (refl, refl)
 refused-same (ask a) s n e h = (refl, refl)
 refused-same (edit (insert t total)) s n e h = insert-kept (s .words) (s .keys) (s .scratch) t total (λ z. h (sym (some-inj e) ∙ z))
@@ -116,25 +115,20 @@ check-scratch s = go (frameFits (s .words) (s .keys)) (ltb (length (s .scratch))
 
 insert-scratch : (t : List ℕ) (total : ℕ) (s : Slices) → insertOf (s .words) (s .keys) (s .scratch) t total .scratch ≡ leftIn (edit (insert t total)) s
 unfolding insertOf insertChecked
-insert-scratch t total s = go (ltb (formOf 1 .limit) (length t)) refl
+insert-scratch t total s = go (tooLong (s .words) (s .keys) t)
   where
     checks : check-call.Answer
     checks = checkOf (s .words) (s .keys) (s .scratch)
 
-    left : Bool → List ℕ
-    left b = choose (b && enough s) (cleared (placesIn (frame (s .words))) (s .scratch)) (s .scratch)
-
-    go : (long : Bool) → ltb (formOf 1 .limit) (length t) ≡ long
-        → choose long (insert-call.out inserted.TooLong (s .words) (s .keys) (s .scratch)) (insertBy (s .words) (s .keys) (checks .scratch) t total (checks .result)) .scratch ≡ left (leb (length t) (formOf 1 .limit))
-    go true e = ap left (sym (lt-leb (length t) (formOf 1 .limit) (ltb-true (formOf 1 .limit) (length t) e)))
-    go false e =
-        insert-scratch-by (s .words) (s .keys) t total (checks .scratch) (checks .result) ∙ check-scratch s
-        ∙ ap left (sym (le-leb (length t) (formOf 1 .limit) (ltb-false (formOf 1 .limit) (length t) e)))
+    go : (long : Bool) → choose long (insert-call.out inserted.TooLong (s .words) (s .keys) (s .scratch)) (insertBy (s .words) (s .keys) (checks .scratch) t total (checks .result)) .scratch
+        ≡ choose (not long && enough s) (cleared (placesIn (frame (s .words))) (s .scratch)) (s .scratch)
+    go true = refl
+    go false = insert-scratch-by (s .words) (s .keys) t total (checks .scratch) (checks .result) ∙ check-scratch s
 
 -- scratch at exit, of every call: its first bytes 0 past the test for 7, all untouched before
 pub scratch-left : (c : Call) (s : Slices) → run c s .slices .scratch ≡ leftIn c s
 unfolding deleteOf deleteChecked
-scratch-left (start c) s = refl
+scratch-left (start form c) s = refl
 scratch-left (query q) s = refl
 scratch-left (ask a) s = check-scratch s
 scratch-left (edit (insert t total)) s = insert-scratch t total s

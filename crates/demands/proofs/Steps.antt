@@ -8,7 +8,6 @@ use mathlib.Core.Bool.{Bool, true, false}
 use native.Mathlib.Decide.{ℕ-discrete}
 use native.Mathlib.Omega.{arith}
 use lib.ListN.{length}
-use Rattle.frames.specs.Form.{formOf}
 use Rattle.frames.specs.declared.frame.Caps.{Caps}
 use Rattle.frames.specs.declared.frame.Frame.{Frame}
 use Rattle.records.specs.View.{Held}
@@ -21,7 +20,7 @@ use Rattle.art.specs.Chain.{Linked}
 use Rattle.art.proofs.Trees.{sorted}
 use Rattle.art.proofs.Counts.{put-length, alter-length, leave-length}
 use Rattle.pools.specs.Start as start-call
-use Rattle.pools.specs.Start.{startFits, startOf}
+use Rattle.pools.specs.Start.{startFitsIn, startOf}
 use Rattle.pools.specs.declared.start.Started.{Started}
 use Rattle.pools.specs.declared.start.Started.the-variants as started
 use Rattle.view.specs.Empty.{Empty}
@@ -33,11 +32,12 @@ use Rattle.whole.specs.Sound.{Sound}
 use Rattle.states.specs.State.{State}
 use Rattle.states.proofs.Sounds.{state-sound}
 use Rattle.insert.specs.Insert as insert-call
+use Rattle.insert.proofs.Calls.{short-fits}
 use Rattle.insert.specs.Meets.{newTotal}
 use Rattle.delete.specs.Delete as delete-call
 use Rattle.demands.specs.Calls.{Call, start, query, ask, edit, insert, delete, Slices, run}
 use Rattle.demands.specs.Histories.{Block, Turn, lent, next, Change, nothing, startChange, insertChange, deleteChange, changeOf, totals, amended, Tally, Tallied, counted, CallBytes}
-use Rattle.demands.proofs.Changes.{frame-limit, insert-sound, over-sound, delete-held, delete-sound}
+use Rattle.demands.proofs.Changes.{insert-sound, over-sound, delete-held, delete-sound}
 use Rattle.demands.proofs.Cases.{refused-done, insert-cases, delete-cases}
 use Rattle.demands.proofs.Totals.{total-of, totals-sorted, totals-put, totals-alter, totals-lookup}
 
@@ -67,12 +67,12 @@ empty-sound {f} {words} {keys} e = state-sound none shown tt tt refl ends refl
     ends = (if-pos (ℕ-discrete 0 0) refl _ _ ∙ e .first, e .last)
 
 -- an accepted start makes one, whatever was there
-pub start-sound : (words keys : List ℕ) (c : Caps) → startOf words keys c .answer ≡ started.Done → let o = startOf words keys c in (s : Sound (o .words) (o .keys)) × (s .tree ≡ none)
-start-sound words keys c done = go (startFits (formOf 1) c (length words) (length keys)) refl
+pub start-sound : (words keys : List ℕ) (form : ℕ) (c : Caps) → startOf words keys form c .answer ≡ started.Done → let o = startOf words keys form c in (s : Sound (o .words) (o .keys)) × (s .tree ≡ none)
+start-sound words keys form c done = go (startFitsIn form c (length words) (length keys)) refl
   where
-    go : (b : Bool) → startFits (formOf 1) c (length words) (length keys) ≡ b → let o = startOf words keys c in (s : Sound (o .words) (o .keys)) × (s .tree ≡ none)
-    go true e = empty-sound (start-empty words keys c e)
-    go false e = let z : _≡_ {A = Started} started.Refused started.Done = ap (λ (o : start-call.Out). o .answer) (sym (start-refused words keys c e)) ∙ done in absurd (refused-done z)
+    go : (b : Bool) → startFitsIn form c (length words) (length keys) ≡ b → let o = startOf words keys form c in (s : Sound (o .words) (o .keys)) × (s .tree ≡ none)
+    go true e = empty-sound (start-empty words keys form c e)
+    go false e = let z : _≡_ {A = Started} started.Refused started.Done = ap (λ (o : start-call.Out). o .answer) (sym (start-refused words keys form c e)) ∙ done in absurd (refused-done z)
 
 -- ── one call ──
 -- a sound block whose tags and totals are l after the change
@@ -87,22 +87,22 @@ module _ {words keys : List ℕ} (s : Sound words keys) where
   same : (c : Change) → c ≡ nothing → Stepped list words keys c
   same c e = (s, ap (amended list) (sym e))
 
-  start-step : (c : Caps) → let o = startOf words keys c in Stepped list (o .words) (o .keys) (startChange (o .answer))
-  start-step c = go (startFits (formOf 1) c (length words) (length keys)) refl
+  start-step : (form : ℕ) (c : Caps) → let o = startOf words keys form c in Stepped list (o .words) (o .keys) (startChange (o .answer))
+  start-step form c = go (startFitsIn form c (length words) (length keys)) refl
     where
       AfterStart : start-call.Out → Type 0
       AfterStart o = Stepped list (o .words) (o .keys) (startChange (o .answer))
 
-      go : (b : Bool) → startFits (formOf 1) c (length words) (length keys) ≡ b → AfterStart (startOf words keys c)
-      go true e = let n = empty-sound (start-empty words keys c e) in (n .0, ap (λ (d : Option (Tree Held)). totals (held d)) (n .1) ∙ ap (λ a. amended list (startChange a)) (sym (start-done words keys c e)))
-      go false e = subst AfterStart (sym (start-refused words keys c e)) (same nothing refl)
+      go : (b : Bool) → startFitsIn form c (length words) (length keys) ≡ b → AfterStart (startOf words keys form c)
+      go true e = let n = empty-sound (start-empty words keys form c e) in (n .0, ap (λ (d : Option (Tree Held)). totals (held d)) (n .1) ∙ ap (λ a. amended list (startChange a)) (sym (start-done words keys form c e)))
+      go false e = subst AfterStart (sym (start-refused words keys form c e)) (same nothing refl)
 
   insert-step : (scratch tag : List ℕ) (total : ℕ) → CallBytes (edit (insert tag total)) → Bytes keys
       → let o = insert-call.insertOf words keys scratch tag total in Stepped list (o .words) (o .keys) (insertChange tag total (o .answer))
   insert-step scratch tag total bytes key-bytes =
       insert-cases words keys tag total (λ o. Stepped list (o .words) (o .keys) (insertChange tag total (o .answer))) (λ a r e. same (insertChange tag total a) e)
       (λ r t short site n gap e.
-      let z = insert-sound s tag bytes key-bytes (subst (λ (m : ℕ). length tag ≤ m) (sym (frame-limit s)) short) e total in
+      let z = insert-sound s tag bytes key-bytes (short-fits words keys tag (s .fits) short) e total in
       (z .0, ap totals (z .1) ∙ totals-put tag (record { number = n; total = total }) (held (s .tree))))
       (λ r t leaf e. let z = over-sound s tag bytes e total in (z .0, ap totals (z .1) ∙ totals-alter (λ h. some (newTotal total h)) (λ x. some total) (λ h. refl) tag (held (s .tree)))) scratch
 
@@ -114,7 +114,7 @@ module _ {words keys : List ℕ} (s : Sound words keys) where
 
   step-by : (c : Call) (scratch : List ℕ) → CallBytes c → Bytes keys
       → let b : Slices = record { words = words; keys = keys; scratch = scratch } in Stepped list (run c b .slices .words) (run c b .slices .keys) (changeOf c b)
-  step-by (start c) r h k = start-step c
+  step-by (start form c) r h k = start-step form c
   step-by (query q) r h k = (s, refl)
   step-by (ask a) r h k = (s, refl)
   step-by (edit (insert t total)) r h k = insert-step r t total h k
@@ -154,7 +154,7 @@ module _ {words keys : List ℕ} (s : Sound words keys) where
       omega (arith, leave-length tag (h .0 .total) l (totals-sorted (held (s .tree)) (held-sorted (s .tree) (s .good))) found)) scratch
 
   counts-by : (c : Call) (scratch : List ℕ) → CallBytes c → Counts (totals (held (s .tree))) (changeOf c (record { words = words; keys = keys; scratch = scratch }))
-  counts-by (start c) r h = start-counts (totals (held (s .tree))) (startOf words keys c .answer)
+  counts-by (start form c) r h = start-counts (totals (held (s .tree))) (startOf words keys form c .answer)
   counts-by (query q) r h = λ n e. e
   counts-by (ask a) r h = λ n e. e
   counts-by (edit (insert t total)) r h = insert-counts r t total

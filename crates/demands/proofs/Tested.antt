@@ -7,7 +7,6 @@ use lib.ListN.{length}
 use lib.Dec.{ltb}
 use borrow.Author.Tests.{le-ltb, lt-ltb, ltb-true, ltb-false}
 use Rattle.lists.specs.Scan.{choose}
-use Rattle.frames.specs.Form.{formOf}
 use Rattle.frames.specs.Frame.{frameFits, frame}
 use Rattle.art.proofs.Deletes.{false-true}
 use Rattle.whole.specs.Marks.{placesIn}
@@ -17,7 +16,7 @@ use Rattle.whole.specs.declared.check.Checked.{Checked}
 use Rattle.whole.specs.declared.check.Checked.the-variants as checked
 use Rattle.whole.proofs.Sounds.{whole-sound, sound-whole}
 use Rattle.insert.specs.Insert as insert-call
-use Rattle.insert.specs.Insert.{insertOf, insertChecked, insertSound, insertBy}
+use Rattle.insert.specs.Insert.{tooLong, insertOf, insertChecked, insertSound, insertBy}
 use Rattle.insert.specs.Plan as insert-plan
 use Rattle.insert.specs.declared.answer.Inserted.the-variants as inserted
 use Rattle.insert.specs.declared.plan.Plan.{Plan}
@@ -25,7 +24,7 @@ use Rattle.delete.specs.Delete as delete-call
 use Rattle.delete.specs.Delete.{deleteOf, deleteChecked, deleteSound, deleteBy}
 use Rattle.delete.specs.Plan as delete-plan
 use Rattle.demands.specs.Calls.{Slices}
-use Rattle.demands.specs.Due.{Unframed, Short, Unsound, Passed}
+use Rattle.demands.specs.Due.{Unframed, Short, Unsound, Passed, Allowed}
 
 -- one of the four holds
 pub data Tests (s : Slices) : Type 0 where
@@ -88,21 +87,21 @@ module _ (s : Slices) where
 
   -- ── insert and delete, by what the check answers ──
   module _ (t : List ℕ) (total : ℕ) where
-    pub insert-too-long : formOf 1 .limit < length t → insertOf (s .words) (s .keys) (s .scratch) t total .answer ≡ inserted.TooLong
+    pub insert-too-long : tooLong (s .words) (s .keys) t ≡ true → insertOf (s .words) (s .keys) (s .scratch) t total .answer ≡ inserted.TooLong
     unfolding insertOf
     insert-too-long h =
         ap (λ (b : Bool). choose b (insert-call.out inserted.TooLong (s .words) (s .keys) (s .scratch)) (insertChecked (s .words) (s .keys) t total (checkOf (s .words) (s .keys) (s .scratch))) .answer)
-        (lt-ltb (formOf 1 .limit) (length t) h)
+        h
 
-    pub insert-by : length t ≤ formOf 1 .limit → (c : Checked) → checkOf (s .words) (s .keys) (s .scratch) .result ≡ c
+    pub insert-by : Allowed t s → (c : Checked) → checkOf (s .words) (s .keys) (s .scratch) .result ≡ c
         → insertOf (s .words) (s .keys) (s .scratch) t total .answer ≡ insertBy (s .words) (s .keys) after t total c .answer
     unfolding insertOf insertChecked
     insert-by h c e =
         ap (λ (b : Bool). choose b (insert-call.out inserted.TooLong (s .words) (s .keys) (s .scratch)) (insertBy (s .words) (s .keys) after t total (checkOf (s .words) (s .keys) (s .scratch) .result)) .answer)
-        (le-ltb (formOf 1 .limit) (length t) h)
+        h
         ∙ ap (λ (c : Checked). insertBy (s .words) (s .keys) after t total c .answer) e
 
-    pub insert-passed : length t ≤ formOf 1 .limit → Passed s → (q : Plan) → insert-plan.planOf (frame (s .words)) (s .words) (s .keys) t ≡ q
+    pub insert-passed : Allowed t s → Passed s → (q : Plan) → insert-plan.planOf (frame (s .words)) (s .words) (s .keys) t ≡ q
         → insertOf (s .words) (s .keys) (s .scratch) t total .answer ≡ insert-call.planned (frame (s .words)) (s .words) (s .keys) after t total q .answer
     unfolding insertSound
     insert-passed h p q e =

@@ -3,6 +3,7 @@ use Prim.Native.Nat.{ℕ}
 use mathlib.Core.Path.{_≡_}
 use mathlib.Core.List.{List}
 use mathlib.Core.Option.{Option, none, some}
+use mathlib.Core.Bool.{Bool, true, false, not}
 use Rattle.frames.specs.declared.frame.Caps.{Caps}
 use Rattle.pools.specs.Start as start-call
 use Rattle.pools.specs.declared.start.Started.{Started}
@@ -45,7 +46,7 @@ pub data Edit : Type 0 where
 
 -- a call by what it may write: a start all words and key bytes, a query nothing, a question after the check scratch, an edit all three
 pub data Call : Type 0 where
-  start : (c : Caps) → Call
+  start : (form : ℕ) (c : Caps) → Call
   query : Query → Call
   ask : Asked → Call
   edit : Edit → Call
@@ -115,10 +116,18 @@ edited (delete t) s = let o = delete-call.deleteOf (s .words) (s .keys) (s .scra
 
 -- ── the one outcome ──
 abbrev pub run : Call → Slices → Outcome
-run (start c) s = let o = start-call.startOf (s .words) (s .keys) c in outcome (started (o .answer)) (o .words) (o .keys) (s .scratch)
+run (start form c) s = let o = start-call.startOf (s .words) (s .keys) form c in outcome (started (o .answer)) (o .words) (o .keys) (s .scratch)
 run (query q) s = read (reply q (s .words) (s .keys)) s
 run (ask a) s = let c = check-call.checkOf (s .words) (s .keys) (s .scratch) in outcome (given a (s .words) (s .keys) (c .result)) (s .words) (s .keys) (c .scratch)
 run (edit e) s = edited e s
+
+-- the call gets to the whole check, with its frame and scratch: a question and an edit do, but for an insert whose tag is too long
+abbrev pub checks : Call → Slices → Bool
+checks (start form c) s = false
+checks (query q) s = false
+checks (ask a) s = true
+checks (edit (insert t total)) s = not (insert-call.tooLong (s .words) (s .keys) t)
+checks (edit (delete t)) s = true
 
 -- the number that a call gives back
 abbrev pub number : Call → Slices → Option ℕ
@@ -127,8 +136,8 @@ number c s = numberOf (run c s .answer)
 -- ── what the contracts promise, each the equation of its `ensures` ──
 -- the answer and the slices that the call may change solve its equation; the other slices are as they were lent
 abbrev pub Promise : Call → Slices → Outcome → Type 0
-Promise (start c) s o = (r : Started) × (o ≡ outcome (started r) (o .slices .words) (o .slices .keys) (s .scratch))
-    × (start-call.out r (o .slices .words) (o .slices .keys) ≡ start-call.startOf (s .words) (s .keys) c)
+Promise (start form c) s o = (r : Started) × (o ≡ outcome (started r) (o .slices .words) (o .slices .keys) (s .scratch))
+    × (start-call.out r (o .slices .words) (o .slices .keys) ≡ start-call.startOf (s .words) (s .keys) form c)
 Promise (query q) s o = (a : Answer) × (o ≡ read a s) × (a ≡ reply q (s .words) (s .keys))
 Promise (ask check) s o = (r : Checked) × (o ≡ outcome (checked r) (s .words) (s .keys) (o .slices .scratch))
     × (check-call.answer r (o .slices .scratch) ≡ check-call.checkOf (s .words) (s .keys) (s .scratch))

@@ -1,4 +1,4 @@
--- The numbers given back, a table by call: each row has its condition, and that none earlier applies. The call that gives a tag gives no number.
+-- The numbers given back, a table by class of call, then by call: each row has its condition, and that none earlier applies. The call that gives a tag gives no number.
 -- On a sound block search, prefix search, minimum and maximum have two rows each, what the walk meets and what the list has; their numbers are the same.
 use Prim.Native.Nat.{ℕ, _≤_, _<_}
 use mathlib.Core.Path.{_≡_}
@@ -8,7 +8,6 @@ use mathlib.Core.Option.{none, some}
 use mathlib.Core.Bool.{Bool, true, false, _&&_}
 use lib.ListN.{length}
 use lib.Dec.{eqb}
-use Rattle.frames.specs.Form.{formOf}
 use Rattle.frames.specs.Frame.{frameFits, frame}
 use Rattle.frames.specs.Place.{placeAt, inPool, recordAt}
 use Rattle.frames.specs.declared.frame.Caps.{Caps}
@@ -22,13 +21,14 @@ use Rattle.art.specs.Verdicts.{known, clash, free, judge}
 use Rattle.art.specs.Deletes.{held}
 use Rattle.art.specs.Stores.{Place, leaf-place, inner-place}
 use Rattle.art.specs.Points.{store-of}
-use Rattle.pools.specs.Start.{startFits}
+use Rattle.pools.specs.Start.{startFitsIn}
 use Rattle.tree.specs.declared.lookup.Aim.the-variants.{Exact, Begin}
 use Rattle.tree.specs.declared.minmax.Edge.the-variants.{Low, High}
 use Rattle.whole.specs.Marks.{placesIn}
 use Rattle.whole.specs.Sound.{Sound}
 use Rattle.insert.specs.Room.{LeavesFull, Lacking}
-use Rattle.demands.specs.Calls.{Call, start, query, ask, edit, search, prefix-search, minimum, maximum, next-leaf, leaf-facts, check, first-at-or-after, insert, delete, Slices}
+use Rattle.insert.specs.Insert.{tooLong}
+use Rattle.demands.specs.Calls.{Query, search, prefix-search, minimum, maximum, next-leaf, leaf-facts, leaf-tag, check, first-at-or-after, insert, delete, Call, start, query, ask, edit, Slices, checks}
 use Rattle.demands.specs.Way.{Gives, Ends}
 
 -- ── frame, scratch, whole check ──
@@ -84,71 +84,74 @@ namesLeaf f words (inner-place k n) = false
 abbrev pub nextNamed : Slices → ℕ → Bool
 nextNamed s ref = namesLeaf (frame (s .words)) (s .words) (placeAt ref)
 
+-- ── classes of calls ──
+-- a query that gives a number: all do but the one that gives a tag
+abbrev pub Numbered : Query → Type 0
+Numbered (search t) = Unit {0}
+Numbered (prefix-search t) = Unit {0}
+Numbered minimum = Unit {0}
+Numbered maximum = Unit {0}
+Numbered (next-leaf n) = Unit {0}
+Numbered (leaf-facts n) = Unit {0}
+Numbered (leaf-tag n) = ⊥
+
+-- a query that gives a number for a leaf number
+pub data OnLeaf : Query → ℕ → Type 0 where
+  of-next : (n : ℕ) → OnLeaf (next-leaf n) n
+  of-facts : (n : ℕ) → OnLeaf (leaf-facts n) n
+
+-- insert's tag is not too long
+abbrev pub Allowed : Tag → Slices → Type 0
+Allowed t s = tooLong (s .words) (s .keys) t ≡ false
+
 -- ── the table ──
 -- the number that is due for a call on what is lent to it
 pub data Due : Call → Slices → ℕ → Type 0 where
-  -- start: 8 where a capacity or a length does not fit, else 0
-  start-refused : {c : Caps} {s : Slices} → startFits (formOf 1) c (length (s .words)) (length (s .keys)) ≡ false → Due (start c) s 8
-  start-done : {c : Caps} {s : Slices} → startFits (formOf 1) c (length (s .words)) (length (s .keys)) ≡ true → Due (start c) s 0
-  -- the two searches and the two ends: 6 for the frame, then by what the walk meets; on a sound block 1 or 0 by the list
-  search-unframed : {t : Tag} {s : Slices} → Unframed s → Due (query (search t)) s 6
+  -- start: 8 where there is no such form, or a capacity or a length does not fit, else 0
+  start-refused : {form : ℕ} {c : Caps} {s : Slices} → startFitsIn form c (length (s .words)) (length (s .keys)) ≡ false → Due (start form c) s 8
+  start-done : {form : ℕ} {c : Caps} {s : Slices} → startFitsIn form c (length (s .words)) (length (s .keys)) ≡ true → Due (start form c) s 0
+  -- every query: 6 for the frame
+  query-unframed : {q : Query} {s : Slices} → Numbered q → Unframed s → Due (query q) s 6
+  -- the two searches and the two ends: by what the walk meets; on a sound block 1 or 0 by the list
   search-walked : {t : Tag} {s : Slices} {n : ℕ} → Fitting s → Gives (frame (s .words)) (s .words) (s .keys) t Exact n → Due (query (search t)) s n
   search-missing : {t : Tag} {s : Slices} (z : Sound (s .words) (s .keys)) → find exact t (holds z) ≡ none → Due (query (search t)) s 1
   search-found : {t : Tag} {s : Slices} (z : Sound (s .words) (s .keys)) (h : Held) → find exact t (holds z) ≡ some h → Due (query (search t)) s 0
-  prefix-unframed : {t : Tag} {s : Slices} → Unframed s → Due (query (prefix-search t)) s 6
   prefix-walked : {t : Tag} {s : Slices} {n : ℕ} → Fitting s → Gives (frame (s .words)) (s .words) (s .keys) t Begin n → Due (query (prefix-search t)) s n
   prefix-missing : {t : Tag} {s : Slices} (z : Sound (s .words) (s .keys)) → find begin t (holds z) ≡ none → Due (query (prefix-search t)) s 1
   prefix-found : {t : Tag} {s : Slices} (z : Sound (s .words) (s .keys)) (h : Held) → find begin t (holds z) ≡ some h → Due (query (prefix-search t)) s 0
-  minimum-unframed : {s : Slices} → Unframed s → Due (query minimum) s 6
   minimum-walked : {s : Slices} {n : ℕ} → Fitting s → Ends (frame (s .words)) (s .words) (s .keys) Low n → Due (query minimum) s n
   minimum-missing : {s : Slices} (z : Sound (s .words) (s .keys)) → first-of (holds z) ≡ none → Due (query minimum) s 1
   minimum-found : {s : Slices} (z : Sound (s .words) (s .keys)) (h : Held) → first-of (holds z) ≡ some h → Due (query minimum) s 0
-  maximum-unframed : {s : Slices} → Unframed s → Due (query maximum) s 6
   maximum-walked : {s : Slices} {n : ℕ} → Fitting s → Ends (frame (s .words)) (s .words) (s .keys) High n → Due (query maximum) s n
   maximum-missing : {s : Slices} (z : Sound (s .words) (s .keys)) → last-of (holds z) ≡ none → Due (query maximum) s 1
   maximum-found : {s : Slices} (z : Sound (s .words) (s .keys)) (h : Held) → last-of (holds z) ≡ some h → Due (query maximum) s 0
-  -- next leaf and leaf facts: 6 for the frame, 9 for the number, 6 for the leaf
-  next-unframed : {n : ℕ} {s : Slices} → Unframed s → Due (query (next-leaf n)) s 6
-  next-outside : {n : ℕ} {s : Slices} → Fitting s → inPool (frame (s .words)) (leaf-place n) ≡ false → Due (query (next-leaf n)) s 9
-  next-free : {n : ℕ} {s : Slices} → Fitting s → inPool (frame (s .words)) (leaf-place n) ≡ true
-      → usedAs (recordAt (frame (s .words)) (s .words) (leaf-place n)) ≡ 0 → Due (query (next-leaf n)) s 9
-  next-broken : {n : ℕ} {s : Slices} → InUse s n → obeys s n ≡ false → Due (query (next-leaf n)) s 6
+  -- a leaf number: 9 for the number, then 6 for the leaf
+  leaf-outside : {q : Query} {n : ℕ} {s : Slices} → OnLeaf q n → Fitting s → inPool (frame (s .words)) (leaf-place n) ≡ false → Due (query q) s 9
+  leaf-free : {q : Query} {n : ℕ} {s : Slices} → OnLeaf q n → Fitting s → inPool (frame (s .words)) (leaf-place n) ≡ true
+      → usedAs (recordAt (frame (s .words)) (s .words) (leaf-place n)) ≡ 0 → Due (query q) s 9
+  leaf-broken : {q : Query} {n : ℕ} {s : Slices} → OnLeaf q n → InUse s n → obeys s n ≡ false → Due (query q) s 6
   next-unnamed : {n : ℕ} {s : Slices} → InUse s n → obeys s n ≡ true → nextRef s n ≢ 0 → nextNamed s (nextRef s n) ≡ false → Due (query (next-leaf n)) s 6
   next-end : {n : ℕ} {s : Slices} → InUse s n → obeys s n ≡ true → nextRef s n ≡ 0 → Due (query (next-leaf n)) s 1
   next-done : {n : ℕ} {s : Slices} → InUse s n → obeys s n ≡ true → nextRef s n ≢ 0 → nextNamed s (nextRef s n) ≡ true → Due (query (next-leaf n)) s 0
-  facts-unframed : {n : ℕ} {s : Slices} → Unframed s → Due (query (leaf-facts n)) s 6
-  facts-outside : {n : ℕ} {s : Slices} → Fitting s → inPool (frame (s .words)) (leaf-place n) ≡ false → Due (query (leaf-facts n)) s 9
-  facts-free : {n : ℕ} {s : Slices} → Fitting s → inPool (frame (s .words)) (leaf-place n) ≡ true
-      → usedAs (recordAt (frame (s .words)) (s .words) (leaf-place n)) ≡ 0 → Due (query (leaf-facts n)) s 9
-  facts-broken : {n : ℕ} {s : Slices} → InUse s n → obeys s n ≡ false → Due (query (leaf-facts n)) s 6
   facts-done : {n : ℕ} {s : Slices} → InUse s n → obeys s n ≡ true → Due (query (leaf-facts n)) s 0
-  -- the check: frame 6, 7, 6
-  check-unframed : {s : Slices} → Unframed s → Due (ask check) s 6
-  check-short : {s : Slices} → Short s → Due (ask check) s 7
-  check-unsound : {s : Slices} → Unsound s → Due (ask check) s 6
+  -- every call that gets to the check: 6 for the frame, 7, 6 for the block
+  checked-unframed : {c : Call} {s : Slices} → checks c s ≡ true → Unframed s → Due c s 6
+  checked-short : {c : Call} {s : Slices} → checks c s ≡ true → Short s → Due c s 7
+  checked-unsound : {c : Call} {s : Slices} → checks c s ≡ true → Unsound s → Due c s 6
+  -- the check, and first-at-or-after: 1 or 0 by the list
   check-sound : {s : Slices} → Passed s → Due (ask check) s 0
-  -- first-at-or-after: the same, then 1
-  after-unframed : {t : Tag} {s : Slices} → Unframed s → Due (ask (first-at-or-after t)) s 6
-  after-short : {t : Tag} {s : Slices} → Short s → Due (ask (first-at-or-after t)) s 7
-  after-unsound : {t : Tag} {s : Slices} → Unsound s → Due (ask (first-at-or-after t)) s 6
   after-missing : {t : Tag} {s : Slices} (p : Passed s) → after t (holds (p .sound)) ≡ none → Due (ask (first-at-or-after t)) s 1
   after-found : {t : Tag} {s : Slices} (p : Passed s) (h : Held) → after t (holds (p .sound)) ≡ some h → Due (ask (first-at-or-after t)) s 0
-  -- insert: 2, the same, then over if held, else 3, 4, 5
-  insert-long : {t : Tag} {total : ℕ} {s : Slices} → formOf 1 .limit < length t → Due (edit (insert t total)) s 2
-  insert-unframed : {t : Tag} {total : ℕ} {s : Slices} → length t ≤ formOf 1 .limit → Unframed s → Due (edit (insert t total)) s 6
-  insert-short : {t : Tag} {total : ℕ} {s : Slices} → length t ≤ formOf 1 .limit → Short s → Due (edit (insert t total)) s 7
-  insert-unsound : {t : Tag} {total : ℕ} {s : Slices} → length t ≤ formOf 1 .limit → Unsound s → Due (edit (insert t total)) s 6
-  insert-over : {t : Tag} {total : ℕ} {s : Slices} → length t ≤ formOf 1 .limit → (p : Passed s) → judge t (holds (p .sound)) ≡ known → Due (edit (insert t total)) s 0
-  insert-clash : {t : Tag} {total : ℕ} {s : Slices} → length t ≤ formOf 1 .limit → (p : Passed s) → judge t (holds (p .sound)) ≡ clash → Due (edit (insert t total)) s 3
-  insert-full : {t : Tag} {total : ℕ} {s : Slices} → length t ≤ formOf 1 .limit → (p : Passed s) → judge t (holds (p .sound)) ≡ free
+  -- insert: 2 before all else; past the check over if held, else 3, 4, 5
+  insert-long : {t : Tag} {total : ℕ} {s : Slices} → tooLong (s .words) (s .keys) t ≡ true → Due (edit (insert t total)) s 2
+  insert-over : {t : Tag} {total : ℕ} {s : Slices} → Allowed t s → (p : Passed s) → judge t (holds (p .sound)) ≡ known → Due (edit (insert t total)) s 0
+  insert-clash : {t : Tag} {total : ℕ} {s : Slices} → Allowed t s → (p : Passed s) → judge t (holds (p .sound)) ≡ clash → Due (edit (insert t total)) s 3
+  insert-full : {t : Tag} {total : ℕ} {s : Slices} → Allowed t s → (p : Passed s) → judge t (holds (p .sound)) ≡ free
       → LeavesFull (frame (s .words)) (store-of (p .sound .tree)) → Due (edit (insert t total)) s 4
-  insert-lacking : {t : Tag} {total : ℕ} {s : Slices} → length t ≤ formOf 1 .limit → (p : Passed s) → judge t (holds (p .sound)) ≡ free
+  insert-lacking : {t : Tag} {total : ℕ} {s : Slices} → Allowed t s → (p : Passed s) → judge t (holds (p .sound)) ≡ free
       → ¬ LeavesFull (frame (s .words)) (store-of (p .sound .tree)) → Lacking (frame (s .words)) (p .sound .tree) t → Due (edit (insert t total)) s 5
-  insert-new : {t : Tag} {total : ℕ} {s : Slices} → length t ≤ formOf 1 .limit → (p : Passed s) → judge t (holds (p .sound)) ≡ free
+  insert-new : {t : Tag} {total : ℕ} {s : Slices} → Allowed t s → (p : Passed s) → judge t (holds (p .sound)) ≡ free
       → ¬ LeavesFull (frame (s .words)) (store-of (p .sound .tree)) → ¬ Lacking (frame (s .words)) (p .sound .tree) t → Due (edit (insert t total)) s 0
-  -- delete: as the check, then 1
-  delete-unframed : {t : Tag} {s : Slices} → Unframed s → Due (edit (delete t)) s 6
-  delete-short : {t : Tag} {s : Slices} → Short s → Due (edit (delete t)) s 7
-  delete-unsound : {t : Tag} {s : Slices} → Unsound s → Due (edit (delete t)) s 6
+  -- delete: past the check 1 or 0 by the list
   delete-missing : {t : Tag} {s : Slices} (p : Passed s) → lookup t (holds (p .sound)) ≡ none → Due (edit (delete t)) s 1
   delete-held : {t : Tag} {s : Slices} (p : Passed s) (h : Held) → lookup t (holds (p .sound)) ≡ some h → Due (edit (delete t)) s 0

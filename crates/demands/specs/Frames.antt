@@ -21,7 +21,7 @@ pub record FrameKept (words keys words′ keys′ : List ℕ) : Type 0 where
 
 -- any call but start
 abbrev pub NoStart : Call → Type 0
-NoStart (start c) = ⊥
+NoStart (start form c) = ⊥
 NoStart (query q) = Unit {0}
 NoStart (ask a) = Unit {0}
 NoStart (edit e) = Unit {0}

@@ -86,7 +86,7 @@ editChange (calls.delete t) s = deleteChange t (deleteOf (s .words) (s .keys) (s
 
 -- by the call and its answer: a question changes nothing
 abbrev pub changeOf : Call → Slices → Change
-changeOf (calls.start c) s = startChange (startOf (s .words) (s .keys) c .answer)
+changeOf (calls.start form c) s = startChange (startOf (s .words) (s .keys) form c .answer)
 changeOf (calls.query q) s = nothing
 changeOf (calls.ask a) s = nothing
 changeOf (calls.edit e) s = editChange e s
@@ -152,7 +152,7 @@ QueryBytes (calls.leaf-tag n) = Unit {0}
 
 -- the tags that are given are bytes
 abbrev pub CallBytes : Call → Type 0
-CallBytes (calls.start c) = Unit {0}
+CallBytes (calls.start form c) = Unit {0}
 CallBytes (calls.query q) = QueryBytes q
 CallBytes (calls.ask calls.check) = Unit {0}
 CallBytes (calls.ask (calls.first-at-or-after t)) = Bytes t

@@ -1,27 +1,22 @@
 -- The calls that take scratch, and what is past their test for 7.
 use Prim.Native.Nat.{ℕ}
 use mathlib.Core.List.{List}
-use mathlib.Core.Bool.{Bool, false, _&&_}
+use mathlib.Core.Bool.{Bool, _&&_}
 use lib.ListN.{length}
 use lib.Dec.{leb}
 use Rattle.lists.specs.Scan.{choose}
-use Rattle.frames.specs.Form.{formOf}
 use Rattle.frames.specs.Frame.{frameFits, frame}
 use Rattle.whole.specs.Marks.{placesIn}
 use Rattle.whole.specs.Check.{cleared}
-use Rattle.demands.specs.Calls.{Call, start, query, ask, edit, insert, delete, Slices}
+use Rattle.demands.specs.Calls.{Call, Slices, checks}
 
 -- the frame fits, and there is a byte for each record
 abbrev pub enough : Slices → Bool
 enough s = frameFits (s .words) (s .keys) && leb (placesIn (frame (s .words))) (length (s .scratch))
 
--- the call takes scratch, and gets past its test for 7; insert tests its tag's length before
+-- the call gets past its test for 7
 abbrev pub past : Call → Slices → Bool
-past (start c) s = false
-past (query q) s = false
-past (ask a) s = enough s
-past (edit (insert t total)) s = leb (length t) (formOf 1 .limit) && enough s
-past (edit (delete t)) s = enough s
+past c s = checks c s && enough s
 
 -- as many zeros in front as there are records, the rest untouched; before the test all untouched
 abbrev pub leftIn : Call → Slices → List ℕ

@@ -113,7 +113,7 @@ pub extern "C" fn directory_start(
     c4: u32,
     c5: u32,
 ) -> u32
-    ensures { λ r. ⌜ seen r (now (words .exit)) (now (keys .exit)) [] ≡ seenIn numberIn (run (calls.start (capsOf c1 c2 c3 c4 c5)) (lentTwo (now (words .entry)) (now (keys .entry)))) ⌝ }
+    ensures { λ r. ⌜ seen r (now (words .exit)) (now (keys .exit)) [] ≡ seenIn numberIn (run (calls.start 1 (capsOf c1 c2 c3 c4 c5)) (lentTwo (now (words .entry)) (now (keys .entry)))) ⌝ }
 {
     let c = Caps {
         c1: c1,
@@ -122,7 +122,7 @@ pub extern "C" fn directory_start(
         c4: c4,
         c5: c5,
     };
-    start_number(pools::start::start(words, keys, c))
+    start_number(pools::start::start(words, keys, 1, c))
 }
 
 #[no_mangle]

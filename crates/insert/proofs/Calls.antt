@@ -6,7 +6,7 @@ use mathlib.Core.Bool.{Bool, true, false}
 use native.Mathlib.Omega.{arith}
 use lib.ListN.{length, getD}
 use lib.Dec.{eqb, ltb}
-use borrow.Author.Tests.{lt-ltb, le-ltb}
+use borrow.Author.Tests.{ltb-false}
 use Rattle.lists.specs.Scan.{choose}
 use Rattle.frames.specs.Form.{formOf}
 use Rattle.frames.specs.Frame.{trailerOf, rootWord, frameFits, frameOf, FrameOf, frame}
@@ -84,10 +84,11 @@ module _ (f : Frame) (words keys tag : List ℕ) {leaf : ℕ} where
       go false e = point-over (pointOf f words keys tag (rootWord words)) h e
 
 -- ── a plan for a sound block is ready ──
--- every known form has the limit that insert tests
-limit-one : (words keys : List ℕ) → frameFits words keys ≡ true → formOf 1 .limit ≡ frame words .form .limit
-unfolding frameOf formOf
-limit-one words keys e = sym (known-limit (getD (trailerOf words) 0 0) (totals words keys e .known))
+-- a tag that is not too long is as long as the block's form allows, since every known form has the same limit
+pub short-fits : (words keys tag : List ℕ) → frameFits words keys ≡ true → call.tooLong words keys tag ≡ false → length tag ≤ frame words .form .limit
+unfolding call.tooLong frameOf formOf
+short-fits words keys tag fits e =
+    omega (arith, ltb-false (formOf 1 .limit) (length tag) e, known-limit (getD (trailerOf words) 0 0) (totals words keys fits .known))
 
 module _ {words keys : List ℕ} (w : FrameOf (frame words) words keys) (s : Sound words keys) (tag : List ℕ) (b : Bytes tag) (k : Bytes keys)
     (l : length tag ≤ frame words .form .limit) where
@@ -101,10 +102,10 @@ module _ {words keys : List ℕ} (w : FrameOf (frame words) words keys) (s : Sou
 
 -- every plan has what its writes need
 pub plan-ready : {f : Frame} {words keys : List ℕ} → FrameOf f words keys → Sound words keys → (tag : List ℕ) → Bytes tag → Bytes keys
-    → length tag ≤ formOf 1 .limit → {p : Plan} → p ≡ planOf f words keys tag → call.PlanReady f words keys tag p
+    → call.tooLong words keys tag ≡ false → {p : Plan} → p ≡ planOf f words keys tag → call.PlanReady f words keys tag p
 plan-ready {f} {words} {keys} w s tag b k l {p} e =
     subst (λ (g : Frame). call.PlanReady g words keys tag p) (sym (w .read))
-    (ready-by (record { read = refl; fits = s .fits }) s tag b k (omega (arith, l, limit-one words keys (s .fits))) p
+    (ready-by (record { read = refl; fits = s .fits }) s tag b k (short-fits words keys tag (s .fits) l) p
     (sym (e ∙ ap (λ (g : Frame). planOf g words keys tag) (w .read))))
 
 -- ── the plan carried out ──
@@ -136,17 +137,14 @@ module _ (words keys scratch tag : List ℕ) (total : ℕ) where
   abbrev by-length : Bool → call.Out
   by-length b = choose b (call.out inserted.TooLong words keys scratch) (call.insertChecked words keys tag total (check.checkOf words keys scratch))
 
-  pub call-long : {n : ℕ} → n ≡ formOf 1 .limit → n < length tag → call.out inserted.TooLong words keys scratch ≡ call.insertOf words keys scratch tag total
+  pub call-long : {b : Bool} → b ≡ call.tooLong words keys tag → b ≡ true → call.out inserted.TooLong words keys scratch ≡ call.insertOf words keys scratch tag total
   unfolding call.insertOf
-  call-long e h = ap by-length (sym (lt-ltb (formOf 1 .limit) (length tag) (omega (arith, e, h))))
+  call-long e h = ap by-length (sym h ∙ e)
 
-  pub call-by : {n : ℕ} {c : Checked} {s : List ℕ} {o : call.Out} → n ≡ formOf 1 .limit → length tag ≤ n → check.answer c s ≡ check.checkOf words keys scratch
+  pub call-by : {b : Bool} {c : Checked} {s : List ℕ} {o : call.Out} → b ≡ call.tooLong words keys tag → b ≡ false → check.answer c s ≡ check.checkOf words keys scratch
       → o ≡ call.insertBy words keys s tag total c → o ≡ call.insertOf words keys scratch tag total
   unfolding call.insertOf call.insertChecked
-  call-by e l q h =
-      h
-      ∙ ap (call.insertChecked words keys tag total) q
-      ∙ ap by-length (sym (le-ltb (formOf 1 .limit) (length tag) (omega (arith, e, l))))
+  call-by e l q h = h ∙ ap (call.insertChecked words keys tag total) q ∙ ap by-length (sym l ∙ e)
 
 pub call-sound : (words keys scratch : List ℕ) {c : Checked} {s : List ℕ} → check.answer c s ≡ check.checkOf words keys scratch → c ≡ checked.Sound → Sound words keys
 call-sound words keys scratch e k = zero-sound words keys scratch (ap (λ (x : check.Answer). check.numberOf (x .result)) (sym e) ∙ ap check.numberOf k)

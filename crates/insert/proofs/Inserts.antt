@@ -4,16 +4,12 @@ use mathlib.Core.Path.{_≡_, refl, sym, ap, subst, _∙_}
 use mathlib.Core.List.{List}
 use mathlib.Core.Bool.{Bool, true, false}
 use native.Mathlib.Omega.{arith}
-use lib.ListN.{length, getD}
+use lib.ListN.{length}
 use borrow.Author.Tests.{le-ltb}
 use Rattle.lists.specs.Scan.{choose}
-use Rattle.frames.specs.Form.{formOf}
-use Rattle.frames.specs.Frame.{trailerOf, frameFits, frameOf, frame}
+use Rattle.frames.specs.Frame.{frame}
 use Rattle.frames.specs.Place.{recordAt}
-use Rattle.frames.specs.declared.form.Form.{Form}
 use Rattle.frames.specs.declared.frame.Frame.{Frame}
-use Rattle.frames.proofs.FormTable.{known-limit}
-use Rattle.frames.proofs.Frames.{totals}
 use Rattle.records.specs.Own.{totalOf}
 use Rattle.art.specs.Deletes.{held}
 use Rattle.art.specs.Verdicts.{known, judge}
@@ -33,7 +29,8 @@ use Rattle.insert.specs.declared.plan.Plan.the-variants.{Over, New, Clas
 use Rattle.insert.specs.Plan.{planOf}
 use Rattle.insert.specs.Room.{LeavesFull, Lacking, Answers}
 use Rattle.insert.specs.Meets.{Inserts, overwrites, clashes, no-leaf, no-record, puts-in}
-use Rattle.insert.specs.Insert.{out, planned, insertSound, insertChecked, insertOf}
+use Rattle.insert.specs.Insert.{out, planned, insertSound, insertChecked, tooLong, insertOf}
+use Rattle.insert.proofs.Calls.{short-fits}
 use Rattle.insert.proofs.Plans.{plan-new}
 use Rattle.insert.proofs.Sounds.{insert-sound}
 use Rattle.insert.proofs.Overs.{over-held, over-sound}
@@ -59,11 +56,6 @@ module _ {words keys : List ℕ} (s : Sound words keys) (tag : List ℕ) (tag-by
   plan-meets Broken e h = absurd h
 
 -- ── the call ──
--- every known form has the limit that insert tests
-pub one-limit : (words keys : List ℕ) → frameFits words keys ≡ true → frame words .form .limit ≡ formOf 1 .limit
-unfolding frameOf formOf
-one-limit words keys fits = known-limit (getD (trailerOf words) 0 0) (totals words keys fits .known)
-
 -- with scratch enough the check finds the block sound
 checked-sound : {words keys : List ℕ} → Sound words keys → (scratch : List ℕ) → placesIn (frame words) ≤ length scratch
     → check.checkOf words keys scratch ≡ check.answer checked.Sound (check.cleared (placesIn (frame words)) scratch)
@@ -73,17 +65,17 @@ checked-sound {words} {keys} s scratch h =
     let whole : check.wholeBy f words keys ≡ true = ap (λ (b : Bool). choose b (check.wholeBy f words keys) false) (sym (s .fits)) ∙ sound-whole words keys s in
     simp (s .fits, le-ltb (length scratch) (placesIn f) h, whole)
 
-on-sound : {words keys : List ℕ} → Sound words keys → (scratch tag : List ℕ) (total : ℕ) → placesIn (frame words) ≤ length scratch → length tag ≤ formOf 1 .limit
+on-sound : {words keys : List ℕ} → Sound words keys → (scratch tag : List ℕ) (total : ℕ) → placesIn (frame words) ≤ length scratch → tooLong words keys tag ≡ false
     → insertOf words keys scratch tag total ≡ planned (frame words) words keys (check.cleared (placesIn (frame words)) scratch) tag total (planOf (frame words) words keys tag)
 unfolding insertOf insertChecked insertSound
 on-sound {words} {keys} s scratch tag total h short =
-    ap (λ (b : Bool). choose b (out inserted.TooLong words keys scratch) (insertChecked words keys tag total (check.checkOf words keys scratch))) (le-ltb (formOf 1 .limit) (length tag) short)
+    ap (λ (b : Bool). choose b (out inserted.TooLong words keys scratch) (insertChecked words keys tag total (check.checkOf words keys scratch))) short
     ∙ ap (insertChecked words keys tag total) (checked-sound s scratch h)
 
 -- on every sound block, with scratch enough, insert of a tag of 64 bytes or fewer does one of the five, each where its condition holds
-pub insert-meets : {words keys : List ℕ} (s : Sound words keys) (scratch tag : List ℕ) (total : ℕ) → Bytes tag → Bytes keys → placesIn (frame words) ≤ length scratch → length tag ≤ formOf 1 .limit
+pub insert-meets : {words keys : List ℕ} (s : Sound words keys) (scratch tag : List ℕ) (total : ℕ) → Bytes tag → Bytes keys → placesIn (frame words) ≤ length scratch → tooLong words keys tag ≡ false
     → Inserts s tag total (insertOf words keys scratch tag total)
 insert-meets {words} {keys} s scratch tag total tag-bytes key-bytes h short =
     subst (Inserts s tag total) (sym (on-sound s scratch tag total h short))
-    (plan-meets s tag tag-bytes key-bytes (omega (arith, one-limit words keys (s .fits))) (check.cleared (placesIn (frame words)) scratch) total
+    (plan-meets s tag tag-bytes key-bytes (short-fits words keys tag (s .fits) short) (check.cleared (placesIn (frame words)) scratch) total
     (planOf (frame words) words keys tag) refl (plan-answers s tag tag-bytes))

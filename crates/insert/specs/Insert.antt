@@ -2,7 +2,7 @@
 use Prim.Native.Nat.{ℕ, _/_}
 use mathlib.Core.List.{List}
 use mathlib.Core.Path.{_≡_}
-use mathlib.Core.Bool.{true}
+use mathlib.Core.Bool.{Bool, true}
 use lib.ListN.{length}
 use lib.Dec.{ltb}
 use Rattle.lists.specs.Scan.{choose}
@@ -68,7 +68,11 @@ insertBy words keys scratch tag total checked.ShortScratch = out inserted.ShortS
 unfoldable pub insertChecked : (words keys tag : List ℕ) → ℕ → check.Answer → Out
 insertChecked words keys tag total c = insertBy words keys (c .scratch) tag total (c .result)
 
--- a tag over 64 bytes is 2, before anything else is looked at; then the whole check
+-- the tag has more bytes than form 1 allows; nothing of the block is looked at for it
+unfoldable pub tooLong : (words keys tag : List ℕ) → Bool
+tooLong words keys tag = ltb (formOf 1 .limit) (length tag)
+
+-- a tag that is too long is 2, before anything else is looked at; then the whole check
 unfoldable pub insertOf : (words keys scratch tag : List ℕ) → ℕ → Out
 insertOf words keys scratch tag total =
-    choose (ltb (formOf 1 .limit) (length tag)) (out inserted.TooLong words keys scratch) (insertChecked words keys tag total (check.checkOf words keys scratch))
+    choose (tooLong words keys tag) (out inserted.TooLong words keys scratch) (insertChecked words keys tag total (check.checkOf words keys scratch))

@@ -1,10 +1,8 @@
 // The call.
 ghost use mathlib.Core.Path.{_≡_};
-ghost use mathlib.Core.Bool.{true};
+ghost use mathlib.Core.Bool.{true, false};
 ghost use mathlib.Core.List.{List};
-ghost use Prim.Native.Nat.{ℕ, _≤_};
-ghost use lib.ListN.{length};
-ghost use Rattle.frames.specs.Form.{formOf};
+ghost use Prim.Native.Nat.{ℕ};
 ghost use Rattle.frames.specs.Frame.{FrameOf};
 ghost use Rattle.frames.specs.Place.{inPool, recordAt};
 ghost use Rattle.records.specs.Own.{totalOf};
@@ -12,7 +10,7 @@ ghost use Rattle.art.specs.Stores.{leaf-place};
 ghost use Rattle.whole.specs.Sound.{Sound};
 ghost use Rattle.writes.specs.Leaf.{totalAt};
 ghost use Rattle.insert.specs.declared.answer.Inserted.the-variants.{Over};
-ghost use Rattle.insert.specs.Insert.{out, planned, PlanReady, insertSound, insertOf};
+ghost use Rattle.insert.specs.Insert.{out, planned, PlanReady, insertSound, tooLong, insertOf};
 use super::answer::Inserted;
 use super::apply;
 use super::plan;
@@ -62,12 +60,20 @@ fn carry_out(
 
 // On a sound block.
 fn insert_sound(words: &mut [u32], keys: &mut [u8], tag: &[u8], total: u64) -> Inserted
-    requires { ⌜ Sound (now words) (now keys) × (length (now tag) ≤ formOf 1 .limit) ⌝ }
+    requires { ⌜ Sound (now words) (now keys) × (tooLong (now words) (now keys) (now tag) ≡ false) ⌝ }
     ensures { λ r. ⌜ ((s : List ℕ) → out r (now (words .exit)) (now (keys .exit)) s ≡ insertSound (now (words .entry)) (now (keys .entry)) s (now (tag .entry)) total) ⌝ }
 {
     let f = frame::frame_at(words, keys);
     let p = plan::plan_insert(words, keys, f, tag);
     carry_out(words, keys, f, tag, total, p)
+}
+
+// A tag of more bytes than form 1 allows. Every form that is known allows as many, so the block need not be looked at.
+fn too_long(words: &[u32], keys: &[u8], tag: &[u8]) -> bool
+    ensures { λ r. ⌜ r ≡ tooLong (now (words .entry)) (now (keys .entry)) (now (tag .entry)) ⌝ }
+{
+    let form = form::form_of(1);
+    (form.limit as usize) < tag.len()
 }
 
 // Sets the total of a tag.
@@ -80,8 +86,7 @@ pub fn insert(
 ) -> Inserted
     ensures { λ r. ⌜ out r (now (words .exit)) (now (keys .exit)) (now (scratch .exit)) ≡ insertOf (now (words .entry)) (now (keys .entry)) (now (scratch .entry)) (now (tag .entry)) total ⌝ }
 {
-    let form = form::form_of(1);
-    if (form.limit as usize) < tag.len() {
+    if too_long(words, keys, tag) {
         return Inserted::TooLong;
     }
     let c = check::check(words, keys, scratch);

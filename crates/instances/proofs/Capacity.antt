@@ -55,7 +55,7 @@ enough = usual-ample 5
 abbrev before : Block
 before = record { words = replicate 184 3; keys = replicate 320 9 }
 
-accepted : startOf (before .words) (before .keys) five .answer ≡ Done
+accepted : startOf (before .words) (before .keys) 1 five .answer ≡ Done
 unfolding opened
 accepted = refl
 
@@ -64,7 +64,7 @@ call c = record { call = c; scratch = replicate 11 1 }
 
 -- started anew after a first tag; then the record of kind 1 grows with E, and shrinks when A is gone
 abbrev calls : List Turn
-calls = call (edit (insert E 9)) ∷ call (start five) ∷ call (edit (insert A 1)) ∷ call (edit (insert B 2)) ∷ call (edit (insert C 3)) ∷ call (edit (insert D 4)) ∷ call (edit (insert E 5)) ∷ call (edit (delete A)) ∷ []
+calls = call (edit (insert E 9)) ∷ call (start 1 five) ∷ call (edit (insert A 1)) ∷ call (edit (insert B 2)) ∷ call (edit (insert C 3)) ∷ call (edit (insert D 4)) ∷ call (edit (insert E 5)) ∷ call (edit (delete A)) ∷ []
 
 bytes : AllBytes calls
 bytes =
@@ -73,23 +73,23 @@ bytes =
     (e, (tt, (a, (tag-bytes B refl, (tag-bytes C refl, (tag-bytes D refl, (e, (a, tt))))))))
 
 -- the second start has enough too
-starts : AmpleStarts (next before (call (start five))) calls
+starts : AmpleStarts (next before (call (start 1 five))) calls
 starts = (tt, ((λ done. enough), (tt, (tt, (tt, (tt, (tt, (tt, tt))))))))
 
 abbrev last : Block
-last = after-all (next before (call (start five))) calls
+last = after-all (next before (call (start 1 five))) calls
 
 A-again : numberOf (answered last (call (edit (insert A 6)))) ≢ some 5
-A-again = ample-never-five before five (replicate 11 1) accepted enough calls bytes starts A 6 (replicate 11 1) (tag-bytes A refl)
+A-again = ample-never-five before 1 five (replicate 11 1) accepted enough calls bytes starts A 6 (replicate 11 1) (tag-bytes A refl)
 
 smallest-kinds : Tight (frame (last .words)) (last .words) (last .keys)
-smallest-kinds = ample-tight before five (replicate 11 1) accepted enough calls bytes starts
+smallest-kinds = ample-tight before 1 five (replicate 11 1) accepted enough calls bytes starts
 
 still-enough : AmpleFrame (frame (last .words))
-still-enough = ample-frame before five (replicate 11 1) accepted enough calls bytes starts
+still-enough = ample-frame before 1 five (replicate 11 1) accepted enough calls bytes starts
 
 last-sound : Sound (last .words) (last .keys)
-last-sound = history before five (replicate 11 1) accepted calls bytes .sound
+last-sound = history before 1 five (replicate 11 1) accepted calls bytes .sound
 
 A-has-room : ¬ LeavesFull (frame (last .words)) (store-of (last-sound .tree)) → ¬ Lacking (frame (last .words)) (last-sound .tree) A
 A-has-room = tight-never-lacks last-sound A (tag-bytes A refl) smallest-kinds still-enough

@@ -2,6 +2,7 @@
 use Prim.Native.Nat.{ℕ, _≤_}
 use mathlib.Core.Path.{_≡_, refl, ap, subst, _∙_}
 use mathlib.Core.Logic.{_≢_}
+use mathlib.Core.Bool.{false}
 use mathlib.Core.List.{List, [], _∷_}
 use mathlib.Core.Option.{some}
 use native.Mathlib.Omega.{arith}
@@ -23,6 +24,7 @@ use Rattle.whole.proofs.Samples.{two-words, two-keys, two-sound}
 use Rattle.range.specs.Range.{afterOf, afterIs}
 use Rattle.range.specs.declared.After.the-variants as after-variants
 use Rattle.pointed.proofs.Points.{tag-bytes}
+use Rattle.insert.specs.Insert.{tooLong}
 use Rattle.insert.specs.declared.answer.Inserted.{Inserted}
 use Rattle.insert.specs.declared.answer.Inserted.the-variants as inserted
 use Rattle.delete.specs.Meets as delete-meets
@@ -70,7 +72,7 @@ unfolding opened
 refused = refused-same (calls.edit (calls.insert C 9)) (lend two 3) 4 refl (λ e. omega arith)
 
 -- and tells nothing but the 4
-refused-bare : tells.toldBy (run (calls.edit (calls.insert C 9)) (lend two 3) .answer) ≡ tells.told 4 0 0 0 []
+refused-bare : tells.toldBy (run (calls.edit (calls.insert C 9)) (lend two 3) .answer) ≡ tells.only 4
 unfolding opened
 refused-bare = refused-told (calls.edit (calls.insert C 9)) (lend two 3) 4 refl (λ e. omega arith)
 
@@ -123,17 +125,17 @@ unfolding opened
 B-listed = sound-listed two two-sound (record { call = calls.query (calls.search B); scratch = replicate 3 1 }) (tag-bytes B refl) tt ∙ ap (λ (l : Listing Held). calls.found (answerOf (find exact B l))) two-holds
 
 -- A with another total gives the old one, AB clashes, and A goes out with its total
-inserted-listed : (t : Tag) → Bytes t → length t ≤ 64 → (r : Inserted) × (on-two (calls.edit (calls.insert t 9)) ≡ calls.inserted r) × InsertsListed two-sound t r
+inserted-listed : (t : Tag) → Bytes t → tooLong two-words two-keys t ≡ false → (r : Inserted) × (on-two (calls.edit (calls.insert t 9)) ≡ calls.inserted r) × InsertsListed two-sound t r
 unfolding opened
 inserted-listed t bytes short = sound-listed two two-sound (record { call = calls.edit (calls.insert t 9); scratch = replicate 3 1 }) bytes two-places .1 short
 
 A-over : on-two (calls.edit (calls.insert A 9)) ≡ calls.inserted (inserted.Over 7)
 unfolding opened
-A-over = let z = inserted-listed A (tag-bytes A refl) (omega arith) in z .1 ∙ ap calls.inserted (z .2 .over (record { number = 0; total = 7 }) (ap (lookup A) two-holds))
+A-over = let z = inserted-listed A (tag-bytes A refl) refl in z .1 ∙ ap calls.inserted (z .2 .over (record { number = 0; total = 7 }) (ap (lookup A) two-holds))
 
 AB-clashes : on-two (calls.edit (calls.insert AB 9)) ≡ calls.inserted inserted.Clash
 unfolding opened
-AB-clashes = let z = inserted-listed AB (tag-bytes AB refl) (omega arith) in z .1 ∙ ap calls.inserted (z .2 .clashes (ap (judge AB) two-holds))
+AB-clashes = let z = inserted-listed AB (tag-bytes AB refl) refl in z .1 ∙ ap calls.inserted (z .2 .clashes (ap (judge AB) two-holds))
 
 A-gone : on-two (calls.edit (calls.delete A)) ≡ calls.deleted (deleted.Gone 7)
 unfolding opened

@@ -23,14 +23,14 @@ abbrev call : Call → Turn
 call c = record { call = c; scratch = replicate 3 1 }
 
 abbrev first : Block
-first = next before (call (start (caps 2)))
+first = next before (call (start 1 (caps 2)))
 
 -- B; A; A again, with another total; AB, which clashes; C, for which there is no leaf; B out again
 abbrev calls : List Turn
 calls = call (edit (insert B 8)) ∷ call (edit (insert A 7)) ∷ call (edit (insert A 9)) ∷ call (edit (insert AB 1)) ∷ call (edit (insert C 2)) ∷ call (edit (delete B)) ∷ []
 
 -- ── computed: the start is done, and the accepted calls define one tag with its total ──
-accepted : startOf (before .words) (before .keys) (caps 2) .answer ≡ Done
+accepted : startOf (before .words) (before .keys) 1 (caps 2) .answer ≡ Done
 unfolding opened
 accepted = refl
 
@@ -52,4 +52,4 @@ bytes =
 
 story : Story (after-all first calls) ((A, 9) ∷ []) (tally 2 1)
 unfolding defined
-story = subst (λ (d : Listing ℕ × Tally). Story (after-all first calls) (d .0) (d .1)) one-left (history before (caps 2) (replicate 3 1) accepted calls bytes)
+story = subst (λ (d : Listing ℕ × Tally). Story (after-all first calls) (d .0) (d .1)) one-left (history before 1 (caps 2) (replicate 3 1) accepted calls bytes)

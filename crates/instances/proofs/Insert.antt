@@ -167,7 +167,7 @@ part-place = place _ _ (part-tree .1 .chosen)
 -- ── a held tag: its leaf is in the pool, as every plan has what it needs, and its total alone changes ──
 over-ready : inPool (frame two-words) (leaf-place 0) ≡ true
 unfolding opened
-over-ready = plan-ready (record { read = refl; fits = two-sound .fits }) two-sound A (tag-bytes A refl) (tag-bytes two-keys refl) (omega arith) {p = Over 5} refl
+over-ready = plan-ready (record { read = refl; fits = two-sound .fits }) two-sound A (tag-bytes A refl) (tag-bytes two-keys refl) refl {p = Over 5} refl
 
 over-put : (s : Sound (totalAt (frame two-words) 0 5 two-words) two-keys) × (held (s .tree) ≡ entry A 0 5 ∷ entry B 1 8 ∷ [])
 unfolding opened
@@ -240,8 +240,8 @@ room-new = new-due room-sound C (tag-bytes C refl) (ap (judge C) room-holds) roo
 -- ── the whole call ──
 room-meets : Inserts room-sound C 9 (out inserted.New (three .words) (three .keys) (replicate 5 0))
 unfolding opened
-room-meets = insert-meets room-sound (replicate 5 1) C 9 (tag-bytes C refl) (tag-bytes (room .keys) refl) (omega arith) (omega arith)
+room-meets = insert-meets room-sound (replicate 5 1) C 9 (tag-bytes C refl) (tag-bytes (room .keys) refl) (omega arith) refl
 
 two-meets : Inserts two-sound AB 9 (out inserted.Clash two-words two-keys (replicate 3 0))
 unfolding opened
-two-meets = insert-meets two-sound (replicate 3 1) AB 9 (tag-bytes AB refl) (tag-bytes two-keys refl) (omega arith) (omega arith)
+two-meets = insert-meets two-sound (replicate 3 1) AB 9 (tag-bytes AB refl) (tag-bytes two-keys refl) (omega arith) refl

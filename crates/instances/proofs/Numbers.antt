@@ -37,7 +37,7 @@ table =
     ∷ line (edit (insert B 1)) (lend lone 2) 5
     ∷ line (ask check) (lend broken 3) 6
     ∷ line (ask check) (lend two 2) 7
-    ∷ line (start (caps 3)) (lend two 0) 8
+    ∷ line (start 1 (caps 3)) (lend two 0) 8
     ∷ line (query (leaf-facts 2)) (lend two 0) 9
     ∷ []
 
@@ -58,14 +58,14 @@ unfolding opened
 dues =
     due.search-found two-sound (holding 0 7) (ap (find exact A) two-holds)
     then due.search-missing two-sound (ap (find exact C) two-holds)
-    then due.insert-long {t = replicate 65 65} (omega arith)
-    then due.insert-clash {t = AB} (omega arith) two-passed (ap (judge AB) two-holds)
-    then due.insert-full {t = C} (omega arith) two-passed (ap (judge C) two-holds) two-full
-    then due.insert-lacking {t = B} (omega arith) lone-passed (ap (judge B) lone-holds) lone-not-full lone-lacks
-    then due.check-unsound broken-unsound
-    then due.check-short two-short
+    then due.insert-long {t = replicate 65 65} refl
+    then due.insert-clash {t = AB} refl two-passed (ap (judge AB) two-holds)
+    then due.insert-full {t = C} refl two-passed (ap (judge C) two-holds) two-full
+    then due.insert-lacking {t = B} refl lone-passed (ap (judge B) lone-holds) lone-not-full lone-lacks
+    then due.checked-unsound refl broken-unsound
+    then due.checked-short refl two-short
     then due.start-refused refl
-    then due.facts-outside refl refl
+    then due.leaf-outside (due.of-facts _) refl refl
     then tt
 
 by-rows : Given table

@@ -87,4 +87,4 @@ last-sound = never-damaged (some (holding 1 8)) last
 -- ── what start makes holds nothing ──
 bare-shown : Shown (frameWith (formOf 1) (sizesOf (formOf 1)) (caps 2)) (bare .words) (bare .keys) none
 unfolding opened
-bare-shown = empty-shown (start-empty (replicate 47 3) (replicate 128 9) (caps 2) refl)
+bare-shown = empty-shown (start-empty (replicate 47 3) (replicate 128 9) 1 (caps 2) refl)

@@ -22,11 +22,11 @@ use Rattle.instances.proofs.Numbers.{dues-given}
 
 -- ── start, and the four searches ──
 abbrev starts : List Line
-starts = line (start (caps 3)) (lend two 0) 8 ∷ line (start (caps 2)) (lend two 0) 0 ∷ []
+starts = line (start 1 (caps 3)) (lend two 0) 8 ∷ line (start 3 (caps 2)) (lend two 0) 8 ∷ line (start 1 (caps 2)) (lend two 0) 0 ∷ []
 
 starts-due : Dues starts
 unfolding opened
-starts-due = due.start-refused refl then due.start-done refl then tt
+starts-due = due.start-refused refl then due.start-refused refl then due.start-done refl then tt
 
 abbrev searches : List Line
 searches =
@@ -47,16 +47,16 @@ searches =
 searches-due : Dues searches
 unfolding opened
 searches-due =
-    due.search-unframed none-unframed
+    due.query-unframed tt none-unframed
     then due.search-missing two-sound (ap (find exact C) two-holds)
     then due.search-found two-sound (holding 0 7) (ap (find exact A) two-holds)
-    then due.prefix-unframed none-unframed
+    then due.query-unframed tt none-unframed
     then due.prefix-missing two-sound (ap (find begin C) two-holds)
     then due.prefix-found two-sound (holding 0 7) (ap (find begin AB) two-holds)
-    then due.minimum-unframed none-unframed
+    then due.query-unframed tt none-unframed
     then due.minimum-missing bare-sound (ap first-of bare-holds)
     then due.minimum-found two-sound (holding 0 7) (ap first-of two-holds)
-    then due.maximum-unframed none-unframed
+    then due.query-unframed tt none-unframed
     then due.maximum-missing bare-sound (ap last-of bare-holds)
     then due.maximum-found two-sound (holding 1 8) (ap last-of two-holds)
     then tt
@@ -97,17 +97,17 @@ leaves =
 leaves-due : Dues leaves
 unfolding opened
 leaves-due =
-    due.next-unframed none-unframed
-    then due.next-outside refl refl
-    then due.next-free refl refl refl
-    then due.next-broken overlong-used refl
+    due.query-unframed tt none-unframed
+    then due.leaf-outside (due.of-next _) refl refl
+    then due.leaf-free (due.of-next _) refl refl refl
+    then due.leaf-broken (due.of-next _) overlong-used refl
     then due.next-unnamed astray-used refl (λ e. omega arith) refl
     then due.next-end last-used refl refl
     then due.next-done first-used refl (λ e. omega arith) refl
-    then due.facts-unframed none-unframed
-    then due.facts-outside refl refl
-    then due.facts-free refl refl refl
-    then due.facts-broken overlong-used refl
+    then due.query-unframed tt none-unframed
+    then due.leaf-outside (due.of-facts _) refl refl
+    then due.leaf-free (due.of-facts _) refl refl refl
+    then due.leaf-broken (due.of-facts _) overlong-used refl
     then due.facts-done first-used refl
     then tt
 
@@ -133,18 +133,18 @@ scratched =
 scratched-due : Dues scratched
 unfolding opened
 scratched-due =
-    due.check-unframed none-unframed
-    then due.check-short two-short
-    then due.check-unsound broken-unsound
+    due.checked-unframed refl none-unframed
+    then due.checked-short refl two-short
+    then due.checked-unsound refl broken-unsound
     then due.check-sound two-passed
-    then due.after-unframed none-unframed
-    then due.after-short two-short
-    then due.after-unsound broken-unsound
+    then due.checked-unframed refl none-unframed
+    then due.checked-short refl two-short
+    then due.checked-unsound refl broken-unsound
     then due.after-missing two-passed (ap (after C) two-holds)
     then due.after-found two-passed (holding 1 8) (ap (after AB) two-holds)
-    then due.delete-unframed none-unframed
-    then due.delete-short two-short
-    then due.delete-unsound broken-unsound
+    then due.checked-unframed refl none-unframed
+    then due.checked-short refl two-short
+    then due.checked-unsound refl broken-unsound
     then due.delete-missing two-passed (ap (lookup C) two-holds)
     then due.delete-held two-passed (holding 0 7) (ap (lookup A) two-holds)
     then tt
@@ -165,15 +165,15 @@ inserts =
 inserts-due : Dues inserts
 unfolding opened
 inserts-due =
-    due.insert-long {t = replicate 65 65} (omega arith)
-    then due.insert-unframed {t = A} (omega arith) none-unframed
-    then due.insert-short {t = A} (omega arith) two-short
-    then due.insert-unsound {t = A} (omega arith) broken-unsound
-    then due.insert-over {t = A} (omega arith) two-passed (ap (judge A) two-holds)
-    then due.insert-clash {t = AB} (omega arith) two-passed (ap (judge AB) two-holds)
-    then due.insert-full {t = C} (omega arith) two-passed (ap (judge C) two-holds) two-full
-    then due.insert-lacking {t = B} (omega arith) lone-passed (ap (judge B) lone-holds) lone-not-full lone-lacks
-    then due.insert-new {t = C} (omega arith) room-passed (ap (judge C) room-holds) room-not-full room-not-lacks
+    due.insert-long {t = replicate 65 65} refl
+    then due.checked-unframed refl none-unframed
+    then due.checked-short refl two-short
+    then due.checked-unsound refl broken-unsound
+    then due.insert-over {t = A} refl two-passed (ap (judge A) two-holds)
+    then due.insert-clash {t = AB} refl two-passed (ap (judge AB) two-holds)
+    then due.insert-full {t = C} refl two-passed (ap (judge C) two-holds) two-full
+    then due.insert-lacking {t = B} refl lone-passed (ap (judge B) lone-holds) lone-not-full lone-lacks
+    then due.insert-new {t = C} refl room-passed (ap (judge C) room-holds) room-not-full room-not-lacks
     then tt
 
 -- ── so each gives its number ──
@@ -190,7 +190,7 @@ ab : Bytes AB
 ab = tag-bytes AB refl
 
 starts-given : Given starts
-starts-given = dues-given starts (tt then tt then tt) starts-due
+starts-given = dues-given starts (tt then tt then tt then tt) starts-due
 
 searches-given : Given searches
 searches-given = dues-given searches (a then c then a then ab then c then ab then tt then tt then tt then tt then tt then tt then tt) searches-due

@@ -118,8 +118,8 @@ no-kind = kind-none (frame two-words) two-words 1 refl
 -- ── start: on 47 words and 128 key bytes, and on one word less ──
 started : Empty (frameWith (formOf 1) (sizesOf (formOf 1)) (caps 2)) (bare .words) (bare .keys)
 unfolding opened
-started = start-empty (replicate 47 3) (replicate 128 9) (caps 2) refl
+started = start-empty (replicate 47 3) (replicate 128 9) 1 (caps 2) refl
 
-refused : startOf (replicate 46 3) (replicate 128 9) (caps 2) ≡ out Refused (replicate 46 3) (replicate 128 9)
+refused : startOf (replicate 46 3) (replicate 128 9) 1 (caps 2) ≡ out Refused (replicate 46 3) (replicate 128 9)
 unfolding opened
-refused = start-refused (replicate 46 3) (replicate 128 9) (caps 2) refl
+refused = start-refused (replicate 46 3) (replicate 128 9) 1 (caps 2) refl

@@ -20,7 +20,7 @@ use Rattle.edits.specs.Record.{changeOf, spreadOf, buildRec}
 use Rattle.pools.specs.Leaf.{leafWords, setTotal}
 use Rattle.pools.specs.Link.{setTrailer, setNext, setPrevious, setLink}
 use Rattle.pools.specs.Pool.{lowestFree, freeKind}
-use Rattle.pools.specs.Start.{startFits, trailerWords, startOf}
+use Rattle.pools.specs.Start.{startFits, startFitsIn, trailerWords, startOf}
 use Rattle.view.specs.Links.{linksOf}
 use Rattle.tree.specs.Arrive.{arrivalAt, withFrame}
 use Rattle.tree.specs.Edge.{edgeRef, edgeStep, edgeOf}
@@ -36,7 +36,7 @@ use Rattle.points.specs.Point as points
 use Rattle.writes.specs.At.{changeAt, prefixedAt, branchAt, moveAt, dropAt, clearAt}
 use Rattle.writes.specs.Leaf.{leafIn, keyIn, leafOut, keyOut, totalAt}
 use Rattle.insert.specs.Apply.{grown, forked, hung, newWords}
-use Rattle.insert.specs.Insert.{insertSound, insertChecked, insertOf}
+use Rattle.insert.specs.Insert.{insertSound, insertChecked, tooLong, insertOf}
 use Rattle.insert.specs.Plan as insert-plan
 use Rattle.delete.specs.Apply.{merged, shrunk, pruned, goneWords}
 use Rattle.delete.specs.Delete.{deleteSound, deleteChecked, deleteOf}
@@ -69,7 +69,7 @@ edits-opened = tt
 
 -- of pools and view: leaves, links, free records and start
 unfoldable pub pools-opened : Unit {0}
-unfolding leafWords setTotal setTrailer setNext setPrevious lowestFree freeKind startFits trailerWords startOf setLink linksOf
+unfolding leafWords setTotal setTrailer setNext setPrevious lowestFree freeKind startFits startFitsIn trailerWords startOf setLink linksOf
 pools-opened = tt
 
 -- of tree and leaves: the walks, and the calls on a leaf number
@@ -94,7 +94,7 @@ writes-opened = tt
 
 -- of insert and delete: their plans, and what these make
 unfoldable pub calls-opened : Unit {0}
-unfolding grown forked hung newWords insertSound insertChecked insertOf insert-plan.intoChoice insert-plan.forkChoice insert-plan.leafPlan insert-plan.pointPlan insert-plan.planOf merged shrunk pruned goneWords deleteSound deleteChecked deleteOf delete-plan.otherEntry delete-plan.shrinkCut delete-plan.cutUnder delete-plan.pointPlan delete-plan.planOf
+unfolding grown forked hung newWords insertSound insertChecked tooLong insertOf insert-plan.intoChoice insert-plan.forkChoice insert-plan.leafPlan insert-plan.pointPlan insert-plan.planOf merged shrunk pruned goneWords deleteSound deleteChecked deleteOf delete-plan.otherEntry delete-plan.shrinkCut delete-plan.cutUnder delete-plan.pointPlan delete-plan.planOf
 calls-opened = tt
 
 -- all of them

@@ -5,7 +5,7 @@ use mathlib.Core.Bool.{Bool, _&&_}
 use lib.ListN.{length, replicate}
 use lib.Dec.{eqb}
 use Rattle.lists.specs.Scan.{choose}
-use Rattle.frames.specs.Form.{formOf, sizesOf}
+use Rattle.frames.specs.Form.{formKnown, formOf, sizesOf}
 use Rattle.frames.specs.Frame.{capsSmall, backsOf}
 use Rattle.frames.specs.declared.form.Form.{Form}
 use Rattle.frames.specs.declared.frame.Caps.{Caps}
@@ -20,6 +20,10 @@ startNumber Refused = 8
 -- capacities up to 4,096, and slices of the exact lengths
 unfoldable pub startFits : Form → Caps → ℕ → ℕ → Bool
 startFits form c n k = capsSmall c && (eqb n (backsOf (sizesOf form) c .b1 + 16) && eqb k (c .c5 * form .limit))
+
+-- the same in the form of a number, where there is one
+unfoldable pub startFitsIn : ℕ → Caps → ℕ → ℕ → Bool
+startFitsIn number c n k = formKnown number && startFits (formOf number) c n k
 
 -- form, distances, capacities; no root, first, last or tag; the total
 unfoldable pub trailerWords : Form → Caps → List ℕ
@@ -53,9 +57,17 @@ pub record Out : Type 0 where
 abbrev pub out : Started → List ℕ → List ℕ → Out
 out a w k = record { answer = a; words = w; keys = k }
 
--- all words 0 but the trailer, all key bytes 0
-unfoldable pub startOf : List ℕ → List ℕ → Caps → Out
-startOf words keys c =
-    choose (startFits (formOf 1) c (length words) (length keys))
-    (out Done (replicate (length words - 16) 0 ++ trailerWords (formOf 1) c) (replicate (length keys) 0))
+-- in a form: all words 0 but the trailer, all key bytes 0
+abbrev pub fresh : List ℕ → List ℕ → Form → Caps → Out
+fresh words keys form c = out Done (replicate (length words - 16) 0 ++ trailerWords form c) (replicate (length keys) 0)
+
+-- so where the slices fit
+unfoldable pub startIn : List ℕ → List ℕ → Form → Caps → Out
+startIn words keys form c = choose (startFits form c (length words) (length keys)) (fresh words keys form c) (out Refused words keys)
+
+-- so in the form of a number, where there is one
+unfoldable pub startOf : List ℕ → List ℕ → ℕ → Caps → Out
+startOf words keys number c =
+    choose (startFitsIn number c (length words) (length keys))
+    (fresh words keys (formOf number) c)
     (out Refused words keys)

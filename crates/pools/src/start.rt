@@ -2,7 +2,7 @@
 ghost use mathlib.Core.Path.{_≡_};
 ghost use Rattle.frames.specs.Form.{sizesOf, SmallSizes};
 ghost use Rattle.frames.specs.Frame.{SmallCaps};
-ghost use Rattle.pools.specs.Start.{startFits, trailerWords, out, startOf};
+ghost use Rattle.pools.specs.Start.{startFits, trailerWords, out, startIn, startOf};
 use frames::form;
 use frames::form::Form;
 use frames::frame;
@@ -54,11 +54,11 @@ fn trailer_words(form: Form, c: Caps) -> [u32; 16]
     ]
 }
 
-// An empty directory of form 1 with these capacities; 8 where one is over 4,096 or a slice has another length.
-pub fn start(words: &mut [u32], keys: &mut [u8], c: Caps) -> Started
-    ensures { λ r. ⌜ out r (now (words .exit)) (now (keys .exit)) ≡ startOf (now (words .entry)) (now (keys .entry)) c ⌝ }
+// An empty directory of a form.
+fn start_in(words: &mut [u32], keys: &mut [u8], form: Form, c: Caps) -> Started
+    requires { ⌜ SmallSizes (sizesOf form) ⌝ }
+    ensures { λ r. ⌜ out r (now (words .exit)) (now (keys .exit)) ≡ startIn (now (words .entry)) (now (keys .entry)) form c ⌝ }
 {
-    let form = form::form_of(1);
     let n = words.len();
     if start_fits(form, c, n, keys.len()) {
         let t = trailer_words(form, c);
@@ -67,6 +67,18 @@ pub fn start(words: &mut [u32], keys: &mut [u8], c: Caps) -> Started
         edit::clear_bytes(keys);
         edit::copy(&mut words[a..n], &t);
         Started::Done
+    } else {
+        Started::Refused
+    }
+}
+
+// An empty directory of the form of that number with these capacities; 8 where there is no such form, a capacity is over 4,096 or a slice has another length.
+pub fn start(words: &mut [u32], keys: &mut [u8], number: u32, c: Caps) -> Started
+    ensures { λ r. ⌜ out r (now (words .exit)) (now (keys .exit)) ≡ startOf (now (words .entry)) (now (keys .entry)) number c ⌝ }
+{
+    if form::form_known(number) {
+        let form = form::form_of(number);
+        start_in(words, keys, form, c)
     } else {
         Started::Refused
     }

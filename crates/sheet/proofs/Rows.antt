@@ -17,7 +17,7 @@ use Rattle.edits.specs.Record.{changeOf, buildRec}
 use Rattle.pools.specs.Pool.{lowestFree, freeKind}
 use Rattle.pools.specs.Link.{setTrailer, setLink, setNext, setPrevious}
 use Rattle.pools.specs.Leaf.{leafWords}
-use Rattle.pools.specs.Start.{startFits, trailerWords, startOf}
+use Rattle.pools.specs.Start.{startFits, startFitsIn, trailerWords, startOf}
 use Rattle.tree.specs.Arrive.{arrivalAt, withFrame}
 use Rattle.tree.specs.Edge.{edgeRef, edgeStep, edgeOf}
 use Rattle.tree.specs.Walk as walk
@@ -32,7 +32,7 @@ use Rattle.writes.specs.At.{changeAt, prefixedAt, branchAt, clearAt}
 use Rattle.writes.specs.Leaf.{leafIn, keyIn, leafOut, keyOut}
 use Rattle.insert.specs.Plan as insert-plan
 use Rattle.insert.specs.Apply.{forked, hung, newWords}
-use Rattle.insert.specs.Insert.{insertSound, insertChecked, insertOf}
+use Rattle.insert.specs.Insert.{insertSound, insertChecked, tooLong, insertOf}
 use Rattle.delete.specs.Plan as delete-plan
 use Rattle.delete.specs.Apply.{merged, pruned, goneWords}
 use Rattle.delete.specs.Delete.{deleteSound, deleteChecked, deleteOf}
@@ -41,5 +41,5 @@ use Rattle.sheet.specs.Sheet.{step, givenFrom, wantedOf, given, wanted, 
 
 -- rows a to l, with every block on the way sound
 pub sheet : given rows ≡ wanted rows
-unfolding prefixOf splitOf mergeOf matchOf splice shiftIn shiftOut kindRow formKnown formOf packOf storedOf formFits trailerFits frameFits frameOf prefixAt headOk sortedOk bodyOk innerOk sortedChild childOf childAt leafOk totalOf bodyRow cellOf setPrefix setHead sortedAdd sortedRemove bodyChange sortedBody bodyOf changeOf buildRec lowestFree freeKind setTrailer setLink setNext setPrevious leafWords startFits trailerWords startOf arrivalAt withFrame edgeRef edgeStep edgeOf walk.leafAnswer walk.innerStep walk.stepOf walk.walkOf placesIn fresh reached tagAt goesOn storedAgrees leafVisit turnAt rowEnd rowBy recordBy sweptAt sweptPool swept rootWay wayWell wholeBy checkOf range.below range.leafStep range.stepOf range.afterFrom range.afterOf points.leafPoint points.runOf points.innerStep points.stepOf points.pointFrom points.pointOf changeAt prefixedAt branchAt clearAt leafIn keyIn leafOut keyOut insert-plan.intoChoice insert-plan.forkChoice insert-plan.leafPlan insert-plan.pointPlan insert-plan.planOf forked hung newWords insertSound insertChecked insertOf delete-plan.otherEntry delete-plan.cutUnder delete-plan.pointPlan delete-plan.planOf merged pruned goneWords deleteSound deleteChecked deleteOf order tag-dec begins-dec ℕ-discrete step givenFrom wantedOf given wanted rows
+unfolding prefixOf splitOf mergeOf matchOf splice shiftIn shiftOut kindRow formKnown formOf packOf storedOf formFits trailerFits frameFits frameOf prefixAt headOk sortedOk bodyOk innerOk sortedChild childOf childAt leafOk totalOf bodyRow cellOf setPrefix setHead sortedAdd sortedRemove bodyChange sortedBody bodyOf changeOf buildRec lowestFree freeKind setTrailer setLink setNext setPrevious leafWords startFits startFitsIn trailerWords startOf arrivalAt withFrame edgeRef edgeStep edgeOf walk.leafAnswer walk.innerStep walk.stepOf walk.walkOf placesIn fresh reached tagAt goesOn storedAgrees leafVisit turnAt rowEnd rowBy recordBy sweptAt sweptPool swept rootWay wayWell wholeBy checkOf range.below range.leafStep range.stepOf range.afterFrom range.afterOf points.leafPoint points.runOf points.innerStep points.stepOf points.pointFrom points.pointOf changeAt prefixedAt branchAt clearAt leafIn keyIn leafOut keyOut insert-plan.intoChoice insert-plan.forkChoice insert-plan.leafPlan insert-plan.pointPlan insert-plan.planOf forked hung newWords insertSound insertChecked tooLong insertOf delete-plan.otherEntry delete-plan.cutUnder delete-plan.pointPlan delete-plan.planOf merged pruned goneWords deleteSound deleteChecked deleteOf order tag-dec begins-dec ℕ-discrete step givenFrom wantedOf given wanted rows
 sheet = refl

@@ -114,7 +114,7 @@ deletingOf o = changing (deleted.numberOf (o .answer)) (deleted.totalIn (o .answ
 
 -- start is lent slices of the lengths that it wants; every other call has what the call before it left
 unfoldable pub step : Block → Call → Step
-step b (starting c) = startingOf (slices c) (starts.startOf (slices c .words) (slices c .keys) c)
+step b (starting c) = startingOf (slices c) (starts.startOf (slices c .words) (slices c .keys) 1 c)
 step b (inserting t total) = insertingOf (insert.insertOf (b .words) (b .keys) (b .scratch) (bytes t) total)
 step b (deleting t) = deletingOf (delete.deleteOf (b .words) (b .keys) (b .scratch) (bytes t))
 step b (searching t) = record { left = b; given = foundGiven (searchOf (b .words) (b .keys) (bytes t)) }

@@ -18,9 +18,10 @@ use Rattle.records.specs.View.{cellOf, blankAt}
 use Rattle.frames.specs.declared.form.Form.{Form}
 use Rattle.frames.specs.declared.frame.Caps.{Caps}
 use Rattle.frames.specs.declared.frame.Frame.{Frame}
+use Rattle.frames.proofs.FormTable.{form-rules}
 use Rattle.frames.proofs.Places.{place-room}
 use Rattle.art.specs.Stores.{Place, leaf-place, inner-place, unused}
-use Rattle.pools.specs.Start.{startFits, trailerWords, Out, out, startOf}
+use Rattle.pools.specs.Start.{startFits, startFitsIn, trailerWords, Out, out, fresh, startOf}
 use Rattle.pools.specs.declared.start.Started.the-variants.{Done, Refused}
 use Rattle.view.specs.Empty.{Empty}
 use Rattle.view.proofs.Views.{cell-out, cell-free}
@@ -116,22 +117,25 @@ module _ (form : Form) (c : Caps) (n k : ℕ) (own : formOf (form .number) ≡ f
           and-both (zeros (leaf-place m) h) (all-between (atMost 0) startKeys (m * form .limit) (m * form .limit + form .limit) (zeros-all k 0))
       blank (inner-place j m) h = zeros (inner-place j m) h
 
-pub start-refused : (words keys : List ℕ) (c : Caps) → startFits (formOf 1) c (length words) (length keys) ≡ false → startOf words keys c ≡ out Refused words keys
+pub start-refused : (words keys : List ℕ) (number : ℕ) (c : Caps) → startFitsIn number c (length words) (length keys) ≡ false → startOf words keys number c ≡ out Refused words keys
 unfolding startOf
-start-refused words keys c e =
-    ap (λ (b : Bool). choose b (out Done (replicate (length words - 16) 0 ++ trailerWords (formOf 1) c) (replicate (length keys) 0)) (out Refused words keys)) e
+start-refused words keys number c e = ap (λ (b : Bool). choose b (fresh words keys (formOf number) c) (out Refused words keys)) e
 
 -- on slices that fit
-module _ (words keys : List ℕ) (c : Caps) (fits : startFits (formOf 1) c (length words) (length keys) ≡ true) where
-  done : startOf words keys c ≡ out Done (replicate (length words - 16) 0 ++ trailerWords (formOf 1) c) (replicate (length keys) 0)
-  unfolding startOf
-  done = ap (λ (b : Bool). choose b (out Done (replicate (length words - 16) 0 ++ trailerWords (formOf 1) c) (replicate (length keys) 0)) (out Refused words keys)) fits
+module _ (words keys : List ℕ) (number : ℕ) (c : Caps) (fits : startFitsIn number c (length words) (length keys) ≡ true) where
+  parts : (formKnown number ≡ true) × (startFits (formOf number) c (length words) (length keys) ≡ true)
+  unfolding startFitsIn
+  parts = both (formKnown number) (startFits (formOf number) c (length words) (length keys)) fits
 
-  pub start-done : startOf words keys c .answer ≡ Done
+  done : startOf words keys number c ≡ fresh words keys (formOf number) c
+  unfolding startOf
+  done = ap (λ (b : Bool). choose b (fresh words keys (formOf number) c) (out Refused words keys)) fits
+
+  pub start-done : startOf words keys number c .answer ≡ Done
   start-done = ap (λ (o : Out). o .answer) done
 
-  pub start-empty : Empty (frameWith (formOf 1) (sizesOf (formOf 1)) c) (startOf words keys c .words) (startOf words keys c .keys)
-  unfolding formOf formKnown
+  pub start-empty : Empty (frameWith (formOf number) (sizesOf (formOf number)) c) (startOf words keys number c .words) (startOf words keys number c .keys)
   start-empty =
-      subst (λ (o : Out). Empty (frameWith (formOf 1) (sizesOf (formOf 1)) c) (o .words) (o .keys)) (sym done)
-      (empty-made (formOf 1) c (length words) (length keys) refl refl fits)
+      let own = form-rules number (parts .0) .number in
+      subst (λ (o : Out). Empty (frameWith (formOf number) (sizesOf (formOf number)) c) (o .words) (o .keys)) (sym done)
+      (empty-made (formOf number) c (length words) (length keys) (ap formOf own) (ap formKnown own ∙ parts .0) (parts .1))

@@ -1,76 +1,37 @@
--- `start::start` meets its contract: nothing is written before the test; then all is cleared, and the trailer laid over the last 16 words.
-use Prim.Native.Nat.{ℕ}
-use mathlib.Core.Path.{refl, ap}
-use native.Mathlib.Omega.{arith}
-use lib.ListN.{length, length-replicate, length-take, length-drop}
+-- `start::start` meets its contract: the form is read only where there is one.
+use mathlib.Core.Path.{refl, sym, _∙_}
 use borrow.Author.Needs.{needs}
-use Rattle.lists.specs.Part.{splice}
-use Rattle.frames.specs.Form.{formKnown}
 use Rattle.frames.proofs.FormTable.{known-sizes}
-use Rattle.pools.specs.Start.{trailerWords}
-use Rattle.pools.proofs.Starts.{starts-small, start-done, start-refused}
+use Rattle.pools.proofs.Starts.{start-known, start-unknown}
 use Rattle.pools.proofs.start.start.Statement.{statement}
 use Rattle.pools.proofs.start.start.Tie as tie
 
 form-of-requires : tie.Need-form-of-requires
-unfolding formKnown
-form-of-requires c κs = refl
+form-of-requires c κs = sym (c .before .form-known .ensures) ∙ c .if1 .taken
 
-start-fits-requires : tie.Need-start-fits-requires
-unfolding formKnown
-start-fits-requires c κs = known-sizes 1 refl _ (c .form-of .ensures) _ refl
-
-trailer-words-requires : tie.Need-trailer-words-requires
-unfolding formKnown
-trailer-words-requires c κs = (known-sizes 1 refl _ (c .before .before .form-of .ensures) _ refl, starts-small _ _ _ _ (c .before .start-fits .ensures) (c .if1 .taken) .0)
-
-sub-a : tie.Need-sub-a
-sub-a c = starts-small _ _ _ _ (c .before .before .start-fits .ensures) (c .before .if1 .taken) .1
-
-copy-requires : tie.Need-copy-requires
-unfolding trailerWords
-copy-requires c κs =
-    let b8 = c .before .before .before .before .before .before .before .before in
-    let b10 = b8 .before .before in
-    let b11 = b10 .before in
-    let b12 = b11 .before in
-    let s = b12 .before .before .before .before in
-    simp (length-take, length-drop) (omega (arith, ap length (b8 .clear .ensures), length-replicate {A = ℕ} (length (s .args .words .now)) 0, ap length (b10 .trailer-words .ensures), starts-small _ _ _ _ (b12 .start-fits .ensures) (b11 .if1 .taken) .1))
+start-in-requires : tie.Need-start-in-requires
+start-in-requires c κs = known-sizes _ (sym (c .before .before .before .before .form-known .ensures) ∙ c .before .before .before .if1 .taken) _ (c .before .before .form-of .ensures) _ refl
 
 returns : tie.Need-returns
-unfolding splice
 returns c =
-    let b2 = c .before .before in
-    let b7 = b2 .before .before .before .before .before in
-    let b11 = b7 .before .before .before .before in
-    let b13 = b11 .before .before in
-    let b14 = b13 .before in
-    let b15 = b14 .before in
-    let b16 = b15 .before in
-    let s = b16 .before .before .before in
-    start-done (s .args .words .now) (s .args .keys .now) (s .args .c) (b16 .form-of .ensures) (b15 .start-fits .ensures) (b14 .if1 .taken) (b11 .clear .last .0) (b2 .copy .last .0) (b7 .clear-bytes .last .0) (b11 .clear .ensures) (b2 .copy .ensures) (b13 .trailer-words .ensures) (b7 .clear-bytes .ensures)
+    let b4 = c .before .before .before .before in
+    let b7 = b4 .before .before .before in
+    let b9 = b7 .before .before in
+    let s = b9 .before .before .before in
+    b4 .start-in .ensures ∙ start-known (s .args .words .now) (s .args .keys .now) (s .args .number) (s .args .c) (b9 .form-known .ensures) (b7 .before .if1 .taken) (b7 .form-of .ensures)
 
 returns-2 : tie.Need-returns-2
 returns-2 c =
-    let s = c .before .before .before .before .before in
-    start-refused (s .args .words .now) (s .args .keys .now) (s .args .c) (c .before .before .form-of .ensures) (c .before .start-fits .ensures) (c .if1 .left)
+    let s = c .before .before .before .before in
+    start-unknown (s .args .words .now) (s .args .keys .now) (s .args .number) (s .args .c) (c .before .form-known .ensures) (c .if1 .left)
 
 pub start-spec : {M : Type 1} → statement M
 start-spec =
     tie.close
     (tie.spec
+    (λ c κs. search needs)
     form-of-requires
-    start-fits-requires
-    trailer-words-requires
-    sub-a
-    (λ c κs. search needs)
-    (λ c κs. search needs)
-    (λ c. search needs)
-    (λ c. search needs)
-    (λ c. search needs)
-    (λ c. search needs)
-    (λ c. search needs)
-    copy-requires
+    start-in-requires
     (λ c. search needs)
     (λ c. search needs)
     returns
