@@ -28,18 +28,18 @@ use Rattle.insert.specs.declared.answer.Inserted.the-variants as inserted
 use Rattle.delete.specs.declared.answer.Deleted.the-variants as deleted
 use Rattle.demands.specs.Calls as calls
 use Rattle.demands.specs.Calls.{Call, query, leaf-facts, leaf-tag, Slices, Answer, numberOf, run, number}
-use Rattle.demands.specs.Told.{Told, told, toldBy}
+use Rattle.demands.specs.Told.{Told, only, toldBy}
 
 -- ── a refusal ──
 -- where the number is not 0, nothing else is told
 abbrev Bare : Option ℕ → Told → Type 0
-Bare o t = (n : ℕ) → o ≡ some n → n ≢ 0 → t ≡ told n 0 0 0 []
+Bare o t = (n : ℕ) → o ≡ some n → n ≢ 0 → t ≡ only n
 
 done : {t : Told} → Bare (some 0) t
 done n e h = absurd (h (sym (some-inj e)))
 
-refused : (m : ℕ) → Bare (some m) (told m 0 0 0 [])
-refused m n e h = ap (λ (k : ℕ). told k 0 0 0 []) (some-inj e)
+refused : (m : ℕ) → Bare (some m) (only m)
+refused m n e h = ap only (some-inj e)
 
 bare : (a : Answer) → Bare (numberOf a) (toldBy a)
 bare (calls.started started.Done) = done
@@ -73,7 +73,7 @@ bare (calls.deleted deleted.Damaged) = refused 6
 bare (calls.deleted deleted.ShortScratch) = refused 7
 
 -- a refused call tells its number, a leaf number, length and total of 0, and an empty tag, whatever the memory holds
-pub refused-told : (c : Call) (s : Slices) (n : ℕ) → number c s ≡ some n → n ≢ 0 → toldBy (run c s .answer) ≡ told n 0 0 0 []
+pub refused-told : (c : Call) (s : Slices) (n : ℕ) → number c s ≡ some n → n ≢ 0 → toldBy (run c s .answer) ≡ only n
 refused-told c s = bare (run c s .answer)
 
 -- ── a leaf's length ──

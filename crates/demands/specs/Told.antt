@@ -10,7 +10,7 @@ use Rattle.insert.specs.Answer as insert
 use Rattle.delete.specs.Answer as delete
 use Rattle.demands.specs.Calls.{Answer, started, found, facts, tag, checked, after, inserted, deleted}
 
--- all that an answer tells: its number, and the leaf, the length, the total and the tag, 0 or empty where it has none
+-- all that an answer tells: its number, and values that are 0 or empty where it has none
 pub record Told : Type 0 where
   pub number : ℕ
   pub leaf : ℕ
@@ -18,17 +18,33 @@ pub record Told : Type 0 where
   pub total : ℕ
   pub tag : List ℕ
 
--- these five values
-abbrev pub told : (number leaf length total : ℕ) → List ℕ → Told
-told n l m t b = record { number = n; leaf = l; length = m; total = t; tag = b }
+-- a number, and no value
+abbrev pub only : ℕ → Told
+only n = record { number = n; leaf = 0; length = 0; total = 0; tag = [] }
 
--- by the kind of answer: a tag comes with its length, and with 0 for the number that it has not
+-- with a total
+abbrev pub withTotal : ℕ → Told → Told
+withTotal n t = record { number = t .number; leaf = t .leaf; length = t .length; total = n; tag = t .tag }
+
+-- with a leaf
+abbrev pub withLeaf : ℕ → Told → Told
+withLeaf n t = record { number = t .number; leaf = n; length = t .length; total = t .total; tag = t .tag }
+
+-- with a length
+abbrev pub withLength : ℕ → Told → Told
+withLength n t = record { number = t .number; leaf = t .leaf; length = n; total = t .total; tag = t .tag }
+
+-- with a tag, and its length
+abbrev pub withTag : List ℕ → Told → Told
+withTag b t = record { number = t .number; leaf = t .leaf; length = length b; total = t .total; tag = b }
+
+-- by the kind of answer: a tag comes with 0 for the number that it has not
 abbrev pub toldBy : Answer → Told
-toldBy (started a) = told (startNumber a) 0 0 0 []
-toldBy (found a) = told (foundNumber a) (foundLeaf a) 0 (foundTotal a) []
-toldBy (facts a) = told (factsNumber a) 0 (factsLength a) (factsTotal a) []
-toldBy (tag b) = told 0 0 (length b) 0 b
-toldBy (checked a) = told (check.numberOf a) 0 0 0 []
-toldBy (after a) = told (range.numberOf a) (range.leafOf a) 0 (range.totalIn a) []
-toldBy (inserted a) = told (insert.numberOf a) 0 0 (insert.totalIn a) []
-toldBy (deleted a) = told (delete.numberOf a) 0 0 (delete.totalIn a) []
+toldBy (started a) = only (startNumber a)
+toldBy (found a) = withLeaf (foundLeaf a) (withTotal (foundTotal a) (only (foundNumber a)))
+toldBy (facts a) = withLength (factsLength a) (withTotal (factsTotal a) (only (factsNumber a)))
+toldBy (tag b) = withTag b (only 0)
+toldBy (checked a) = only (check.numberOf a)
+toldBy (after a) = withLeaf (range.leafOf a) (withTotal (range.totalIn a) (only (range.numberOf a)))
+toldBy (inserted a) = withTotal (insert.totalIn a) (only (insert.numberOf a))
+toldBy (deleted a) = withTotal (delete.totalIn a) (only (delete.numberOf a))
