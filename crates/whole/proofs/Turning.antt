@@ -27,7 +27,7 @@ use Rattle.tree.specs.Arrive.{arrivalAt, arrived, onPath, InnerThere}
 use Rattle.whole.specs.Arrive.{There, innerRec}
 use Rattle.whole.specs.Marks.{fresh, reached}
 use Rattle.whole.specs.Witness.{LeafSeen, WitnessSeen, tagAt, goesOn, storedAgrees}
-use Rattle.whole.specs.Visit.{Way, way, leafVisit, turnOf, turnAt, doneOf, firstOf, rowEnd, childEnd, wayOn, recordEnd, rowBy, rowFrom, rowOf, afterTurn, recordBy, rowWay, Sees, Counted, RowReady}
+use Rattle.whole.specs.Visit.{Way, way, leafVisit, turnOf, turnAt, doneOf, firstOf, rowEnd, childEnd, wayOn, recordEnd, rowBy, rowFrom, rowOf, afterTurn, recordBy, rowWay, Sees, Counted, RecordReady, RowReady}
 use Rattle.tree.specs.declared.arrive.Arrival.{Arrival}
 use Rattle.tree.specs.declared.arrive.Arrival.the-variants.{Leaf, Inner, Broken}
 use Rattle.whole.specs.declared.well_formed.Seen.{Seen}
@@ -181,46 +181,48 @@ module _ (f : Frame) (words keys : List ℕ) (left ref depth : ℕ) (m : List �
 
   pub record-branch : (row : Row) → turnAt f words keys left ref depth m s ≡ Branch row → Branches f words left depth row
       → recordBy f words keys left ref depth m s
-      ≡ way (recordEnd f words keys row depth (rowWay f words keys (left - 1) row 0 0 (reached f ref m) s .visit)) (rowWay f words keys (left - 1) row 0 0 (reached f ref m) s .marks)
+      ≡ way (recordEnd f words keys row depth (rowWay f words keys (left - 1) row 256 0 (reached f ref m) s .visit)) (rowWay f words keys (left - 1) row 256 0 (reached f ref m) s .marks)
   unfolding recordBy
   record-branch row = go left
     where
       go : (l : ℕ) → turnAt f words keys l ref depth m s ≡ Branch row → Branches f words l depth row
-          → recordBy f words keys l ref depth m s ≡ ends row (rowWay f words keys (l - 1) row 0 0 (reached f ref m) s)
+          → recordBy f words keys l ref depth m s ≡ ends row (rowWay f words keys (l - 1) row 256 0 (reached f ref m) s)
       go zero e h = absurd (omega (arith, h .some))
       go (suc l) e h =
           let q : suc l - 1 ≡ l = omega arith in
           ap (λ (t : Turn). afterTurn f words keys (λ row m′. rowBy f words keys (recordBy f words keys l) (row .depth) 0 (rowOf f words row) m′ s) depth t (reached f ref m)) e
-          ∙ ap (λ (cs : List (ℕ × ℕ)). ends row (rowBy f words keys (recordBy f words keys l) (row .depth) 0 cs (reached f ref m) s)) (sym (row-whole f words row (h .there) 0 refl))
-          ∙ ap (λ (k : ℕ). ends row (rowWay f words keys k row 0 0 (reached f ref m) s)) (sym q)
+          ∙ ap (λ (cs : List (ℕ × ℕ)). ends row (rowBy f words keys (recordBy f words keys l) (row .depth) 0 cs (reached f ref m) s)) (sym (row-whole f words row (h .there) (256 - 256) refl))
+          ∙ ap (λ (k : ℕ). ends row (rowWay f words keys k row 256 0 (reached f ref m) s)) (sym q)
 
--- ── the turns of a row ──
-module _ (f : Frame) (words keys : List ℕ) (left : ℕ) (row : Row) (b w : ℕ) (m : List ℕ) (s : Seen) where
-  pub row-end : rowFrom b (rowOf f words row) ≡ [] → rowWay f words keys left row b w m s ≡ way (rowEnd w s) m
+-- ── the turns of a row, with so many places left ──
+module _ (f : Frame) (words keys : List ℕ) (left : ℕ) (row : Row) (places w : ℕ) (m : List ℕ) (s : Seen) where
+  pub row-end : rowFrom (256 - places) (rowOf f words row) ≡ [] → rowWay f words keys left row places w m s ≡ way (rowEnd w s) m
   unfolding rowBy
   row-end e = ap (λ (cs : List (ℕ × ℕ)). rowBy f words keys (recordBy f words keys left) (row .depth) w cs m s) e
 
-  module _ (x r : ℕ) (e : rowFrom b (rowOf f words row) ≡ (x, r) ∷ rowFrom (x + 1) (rowOf f words row)) where
+  module _ (x r : ℕ) (h : Starts (256 - places) (rowOf f words row) x r) where
     abbrev child : Way
     child = recordBy f words keys left r (row .depth + 1) m s
 
-    row-child : rowWay f words keys left row b w m s
+    row-child : rowWay f words keys left row places w m s
         ≡ wayOn (childEnd f words keys (row .depth) x w (child .visit)) (child .marks)
-        (λ y m′ s′. rowWay f words keys left row (x + 1) y m′ s′)
+        (λ y m′ s′. rowWay f words keys left row (255 - x) y m′ s′)
     unfolding rowBy
-    row-child = ap (λ (cs : List (ℕ × ℕ)). rowBy f words keys (recordBy f words keys left) (row .depth) w cs m s) e
+    row-child =
+        let past : x + 1 ≡ 256 - (255 - x) = omega (arith, h .byte) in
+        ap (λ (cs : List (ℕ × ℕ)). rowBy f words keys (recordBy f words keys left) (row .depth) w cs m s) (h .parts ∙ ap (λ (b : ℕ). (x, r) ∷ rowFrom b (rowOf f words row)) past)
 
     pub row-ill : childEnd f words keys (row .depth) x w (child .visit) ≡ Ill
-        → rowWay f words keys left row b w m s ≡ way Ill (child .marks)
-    row-ill h =
+        → rowWay f words keys left row places w m s ≡ way Ill (child .marks)
+    row-ill e =
         row-child
-        ∙ ap (λ (v : Visit). wayOn v (child .marks) (λ y m′ s′. rowWay f words keys left row (x + 1) y m′ s′)) h
+        ∙ ap (λ (v : Visit). wayOn v (child .marks) (λ y m′ s′. rowWay f words keys left row (255 - x) y m′ s′)) e
 
     pub row-well : (y : ℕ) (z : Seen) → childEnd f words keys (row .depth) x w (child .visit) ≡ Well y z
-        → rowWay f words keys left row b w m s ≡ rowWay f words keys left row (x + 1) y (child .marks) z
-    row-well y z h =
+        → rowWay f words keys left row places w m s ≡ rowWay f words keys left row (255 - x) y (child .marks) z
+    row-well y z e =
         row-child
-        ∙ ap (λ (v : Visit). wayOn v (child .marks) (λ y m′ s′. rowWay f words keys left row (x + 1) y m′ s′)) h
+        ∙ ap (λ (v : Visit). wayOn v (child .marks) (λ y m′ s′. rowWay f words keys left row (255 - x) y m′ s′)) e
 
 -- ── what is handed up ──
 module _ (f : Frame) (words keys : List ℕ) where
@@ -325,98 +327,139 @@ module _ (f : Frame) (words keys : List ℕ) where
       turn-kept (suc left) ref depth m s (λ row m′. rowBy f words keys (recordBy f words keys left) (row .depth) 0 (rowOf f words row) m′ s)
       (λ row. row-kept (recordBy f words keys left) (record-kept left) (row .depth) 0 (rowOf f words row) (reached f ref m) s no-witness (omega (arith, reached-more f ref m))) c
 
--- ── the turns, by what the calls gave ──
-module _ {f : Frame} {words keys : List ℕ} (fr : FrameOf f words keys) (left ref depth : ℕ) (m : List ℕ) (s : Seen) {t : Turn} (te : t ≡ turnAt f words keys left ref depth m s)
-    {m′ : List ℕ} (me : m′ ≡ reached f ref m) where
-  pub record-stops : {r v : Visit} → t ≡ Done v → r ≡ doneOf t → (r ≡ recordBy f words keys left ref depth m s .visit) × (m′ ≡ recordBy f words keys left ref depth m s .marks)
-  record-stops {r} {v} e h =
-      let q = record-done f words keys left ref depth m s v (sym te ∙ e) in
-      (h ∙ ap doneOf e ∙ sym (ap (λ (x : Way). x .visit) q), me ∙ sym (ap (λ (x : Way). x .marks) q))
+-- ── the turns of `check_record`, by what its calls gave ──
+module _ {f : Frame} {words keys : List ℕ} {left depth : ℕ} {s : Seen} {m : List ℕ} (q : RecordReady f words keys left depth s m) (ref : ℕ) where
+  abbrev Record-answers : Visit → List ℕ → Type 0
+  Record-answers v m′ = (v ≡ recordBy f words keys left ref depth m s .visit) × (m′ ≡ recordBy f words keys left ref depth m s .marks)
 
-  module _ {row : Row} (e : t ≡ Branch row) where
-    pub branch-here : Branches f words left depth row
-    branch-here = branches fr left ref depth m s row (sym te ∙ e)
+  -- the record is reached, which leaves the marks m′, and its row is to be gone over
+  pub record RowNext (row : Row) (m′ : List ℕ) : Type 0 where
+    pub turn : turnAt f words keys left ref depth m s ≡ Branch row
+    pub marks : m′ ≡ reached f ref m
 
-    pub record-counted : s .count ≤ howMany nonzero m → s .count ≤ howMany nonzero m′
-    record-counted c = omega (arith, ap (howMany nonzero) me, reached-more f ref m)
+  module _ {t : Turn} {m′ : List ℕ} (a : (t ≡ turnAt f words keys left ref depth m s) × (m′ ≡ reached f ref m)) where
+    pub row-next : {row : Row} → t ≡ Branch row → RowNext row m′
+    row-next e = record { turn = sym (a .0) ∙ e; marks = a .1 }
 
-    module _ {v : Visit} {mr : List ℕ} (ve : v ≡ rowWay f words keys (left - 1) row 0 0 m′ s .visit) (re : mr ≡ rowWay f words keys (left - 1) row 0 0 m′ s .marks) where
-      pub row-sees : s .count ≤ howMany nonzero m → Sees f words keys v
-      row-sees c =
-          subst (Sees f words keys) (sym ve)
-          (row-kept f words keys (recordBy f words keys (left - 1)) (record-kept f words keys (left - 1)) (row .depth) 0 (rowFrom 0 (rowOf f words row)) m′ s (no-witness f words keys) (record-counted c) .0)
+    pub record-stops : {r v : Visit} → t ≡ Done v → r ≡ doneOf t → Record-answers r m′
+    record-stops {r} {v} e h =
+        let d = record-done f words keys left ref depth m s v (sym (a .0) ∙ e) in
+        (h ∙ ap doneOf e ∙ sym (ap (λ (x : Way). x .visit) d), a .1 ∙ sym (ap (λ (x : Way). x .marks) d))
 
-      pub record-closes : {r : Visit} → r ≡ recordEnd f words keys row depth v → (r ≡ recordBy f words keys left ref depth m s .visit) × (mr ≡ recordBy f words keys left ref depth m s .marks)
-      record-closes {r} h =
-          let q = record-branch f words keys left ref depth m s row (sym te ∙ e) branch-here in
-          let at : rowWay f words keys (left - 1) row 0 0 m′ s ≡ rowWay f words keys (left - 1) row 0 0 (reached f ref m) s =
-          ap (λ (x : List ℕ). rowWay f words keys (left - 1) row 0 0 x s) me in (
-            h ∙ ap (recordEnd f words keys row depth) (ve ∙ ap (λ (x : Way). x .visit) at) ∙ sym (ap (λ (x : Way). x .visit) q),
-            re ∙ ap (λ (x : Way). x .marks) at ∙ sym (ap (λ (x : Way). x .marks) q),
-          )
+module _ {f : Frame} {words keys : List ℕ} {left depth : ℕ} {s : Seen} {m : List ℕ} {q : RecordReady f words keys left depth s m} {ref : ℕ} {row : Row} {m′ : List ℕ} (h : RowNext q ref row m′) where
+  branch-here : Branches f words left depth row
+  branch-here = branches (q .frame) left ref depth m s row (h .turn)
 
--- ── the turns of a row's loop ──
--- with the marks and leaves so far, the row from a byte on answers what the whole row does with those at the start
-pub record Going (f : Frame) (words keys : List ℕ) (left : ℕ) (row : Row) (m₀ : List ℕ) (s₀ : Seen) (b w : ℕ) (m : List ℕ) (s : Seen) : Type 0 where
-  pub ready : RowReady f words keys left row b w s m
-  pub same-answer : rowWay f words keys left row b w m s ≡ rowWay f words keys left row 0 0 m₀ s₀
+  pub some-left : 0 < left
+  some-left = branch-here .some
+
+  -- the row can be gone over, with one record less left on the path
+  pub row-ready : RowReady f words keys (left - 1) row 256 0 s m′
+  row-ready =
+      record {
+        frame = q .frame;
+        there = branch-here .there;
+        within = omega arith;
+        witness = no-witness f words keys;
+        counted = omega (arith, q .counted, ap (howMany nonzero) (h .marks), reached-more f ref m);
+        shallow = omega (arith, branch-here .some, branch-here .shallow, q .shallow);
+      }
+
+  module _ {v : Visit} {mr : List ℕ} (a : (v ≡ rowWay f words keys (left - 1) row 256 0 m′ s .visit) × (mr ≡ rowWay f words keys (left - 1) row 256 0 m′ s .marks)) where
+    pub row-sees : Sees f words keys v
+    row-sees =
+        subst (Sees f words keys) (sym (a .0))
+        (row-kept f words keys (recordBy f words keys (left - 1)) (record-kept f words keys (left - 1)) (row .depth) 0 (rowFrom (256 - 256) (rowOf f words row)) m′ s (no-witness f words keys) (row-ready .counted) .0)
+
+    pub record-closes : {r : Visit} → r ≡ recordEnd f words keys row depth v → Record-answers q ref r mr
+    record-closes {r} e =
+        let whole = record-branch f words keys left ref depth m s row (h .turn) branch-here in
+        let at : rowWay f words keys (left - 1) row 256 0 m′ s ≡ rowWay f words keys (left - 1) row 256 0 (reached f ref m) s =
+        ap (λ (x : List ℕ). rowWay f words keys (left - 1) row 256 0 x s) (h .marks) in (
+          e ∙ ap (recordEnd f words keys row depth) (a .0 ∙ ap (λ (x : Way). x .visit) at) ∙ sym (ap (λ (x : Way). x .visit) whole),
+          a .1 ∙ ap (λ (x : Way). x .marks) at ∙ sym (ap (λ (x : Way). x .marks) whole),
+        )
+
+-- ── the turns of the loop of `check_row`, by what its calls gave ──
+-- with the marks and leaves so far, the row with so many places left answers what the whole row does with those at the start
+pub record Going (f : Frame) (words keys : List ℕ) (left : ℕ) (row : Row) (m₀ : List ℕ) (s₀ : Seen) (places w : ℕ) (m : List ℕ) (s : Seen) : Type 0 where
+  pub ready : RowReady f words keys left row places w s m
+  pub same-answer : rowWay f words keys left row places w m s ≡ rowWay f words keys left row 256 0 m₀ s₀
   pub same-length : length m ≡ length m₀
 
-module _ {f : Frame} {words keys : List ℕ} {left : ℕ} {row : Row} {m₀ : List ℕ} {s₀ : Seen} {b w : ℕ} {m : List ℕ} {s : Seen} (g : Going f words keys left row m₀ s₀ b w m s) where
-  abbrev Answers : Visit → List ℕ → Type 0
-  Answers r mr = (r ≡ rowWay f words keys left row 0 0 m₀ s₀ .visit) × (mr ≡ rowWay f words keys left row 0 0 m₀ s₀ .marks)
+module _ {f : Frame} {words keys : List ℕ} {left : ℕ} {row : Row} {m₀ : List ℕ} {s₀ : Seen} {places w : ℕ} {m : List ℕ} {s : Seen} (g : Going f words keys left row m₀ s₀ places w m s) where
+  abbrev Row-answers : Visit → List ℕ → Type 0
+  Row-answers v m′ = (v ≡ rowWay f words keys left row 256 0 m₀ s₀ .visit) × (m′ ≡ rowWay f words keys left row 256 0 m₀ s₀ .marks)
 
-  ends-here : {r : Visit} → rowFrom b (rowOf f words row) ≡ [] → r ≡ rowEnd w s → Answers r m
+  ends-here : {r : Visit} → rowFrom (256 - places) (rowOf f words row) ≡ [] → r ≡ rowEnd w s → Row-answers r m
   ends-here e h =
-      let q = sym (g .same-answer) ∙ row-end f words keys left row b w m s e in
+      let q = sym (g .same-answer) ∙ row-end f words keys left row places w m s e in
       (h ∙ sym (ap (λ (x : Way). x .visit) q), sym (ap (λ (x : Way). x .marks) q))
 
-  pub row-over : {r : Visit} → 255 < b → r ≡ rowEnd w s → Answers r m
-  row-over l h = ends-here (row-past f words row (g .ready .there) b l) h
+  pub row-over : {r : Visit} → places ≤ 0 → r ≡ rowEnd w s → Row-answers r m
+  row-over l h = ends-here (row-past f words row (g .ready .there) (256 - places) (omega arith)) h
 
-  module _ {c : Entry} (ce : c ≡ entryFrom b (rowOf f words row)) where
-    pub row-stops : {r : Visit} → c ≡ Nothing → r ≡ rowEnd w s → Answers r m
-    row-stops e h = ends-here (row-ends f words row (g .ready .there) b (sym ce ∙ e)) h
+  pub row-stops : {c : Entry} {r : Visit} → c ≡ entryFrom (256 - places) (rowOf f words row) → c ≡ Nothing → r ≡ rowEnd w s → Row-answers r m
+  row-stops a e h = ends-here (row-ends f words row (g .ready .there) (256 - places) (sym a ∙ e)) h
 
-    module _ {x r : ℕ} (e : c ≡ Child x r) where
-      pub child-starts : Starts b (rowOf f words row) x r
-      child-starts = row-starts f words row (g .ready .there) b x r (sym ce ∙ e)
+  -- the next child is found: its byte and its reference
+  pub record ChildNext (x r : ℕ) : Type 0 where
+    pub starts : Starts (256 - places) (rowOf f words row) x r
 
-      module _ {v : Visit} {m′ : List ℕ} (ve : v ≡ recordBy f words keys left r (row .depth + 1) m s .visit) (me : m′ ≡ recordBy f words keys left r (row .depth + 1) m s .marks) where
-        child-kept-so : Kept f words keys m′ v
-        child-kept-so =
-            let k = record-kept f words keys left r (row .depth + 1) m s (g .ready .counted) in
-            (subst (Sees f words keys) (sym ve) (k .0), subst (λ (l : List ℕ). Counted l v) (sym me) (subst (Counted (recordBy f words keys left r (row .depth + 1) m s .marks)) (sym ve) (k .1)))
+  pub child-next : {c : Entry} {x r : ℕ} → c ≡ entryFrom (256 - places) (rowOf f words row) → c ≡ Child x r → ChildNext x r
+  child-next {c} {x} {r} a e = record { starts = row-starts f words row (g .ready .there) (256 - places) x r (sym a ∙ e) }
 
-        pub child-sees : Sees f words keys v
-        child-sees = child-kept-so .0
+module _ {f : Frame} {words keys : List ℕ} {left : ℕ} {row : Row} {m₀ : List ℕ} {s₀ : Seen} {places w : ℕ} {m : List ℕ} {s : Seen} {g : Going f words keys left row m₀ s₀ places w m s} {x r : ℕ}
+    (h : ChildNext g x r) where
+  pub child-ready : RecordReady f words keys left (row .depth + 1) s m
+  child-ready = record { frame = g .ready .frame; counted = g .ready .counted; shallow = g .ready .shallow }
 
-        module _ {y : Visit} (ye : y ≡ childEnd f words keys (row .depth) x w v) where
-          ended : childEnd f words keys (row .depth) x w (recordBy f words keys left r (row .depth + 1) m s .visit) ≡ y
-          ended = ap (childEnd f words keys (row .depth) x w) (sym ve) ∙ sym ye
+  -- the child is checked, with this answer and these marks
+  pub record Visited (v : Visit) (m′ : List ℕ) : Type 0 where
+    pub visit : v ≡ recordBy f words keys left r (row .depth + 1) m s .visit
+    pub marks : m′ ≡ recordBy f words keys left r (row .depth + 1) m s .marks
+    pub same-length : length m′ ≡ length m₀
 
-          pub row-breaks : y ≡ Ill → Answers Ill m′
-          row-breaks i =
-              let q = sym (g .same-answer) ∙ row-ill f words keys left row b w m s x r (child-starts .parts) (ended ∙ i) in
-              (sym (ap (λ (x : Way). x .visit) q), me ∙ sym (ap (λ (x : Way). x .marks) q))
+  pub child-visited : {v : Visit} {m′ : List ℕ} → (v ≡ recordBy f words keys left r (row .depth + 1) m s .visit) × (m′ ≡ recordBy f words keys left r (row .depth + 1) m s .marks)
+      → length m′ ≡ length m → Visited v m′
+  child-visited a l = record { visit = a .0; marks = a .1; same-length = l ∙ g .same-length }
 
-          pub row-goes : {u : ℕ} {z : Seen} → y ≡ Well u z → length m′ ≡ length m → Going f words keys left row m₀ s₀ (x + 1) u m′ z
-          row-goes {u} {z} i n =
-              let k = child-kept f words keys (row .depth) x w m′ v (g .ready .witness) child-kept-so in
-              let j : Kept f words keys m′ (Well u z) = subst (Kept f words keys m′) (sym ye ∙ i) k in
+module _ {f : Frame} {words keys : List ℕ} {left : ℕ} {row : Row} {m₀ : List ℕ} {s₀ : Seen} {places w : ℕ} {m : List ℕ} {s : Seen} {g : Going f words keys left row m₀ s₀ places w m s} {x r : ℕ}
+    {h : ChildNext g x r} {v : Visit} {m′ : List ℕ} (a : Visited h v m′) where
+  visit-kept : Kept f words keys m′ v
+  visit-kept =
+      let k = record-kept f words keys left r (row .depth + 1) m s (g .ready .counted) in
+      (subst (Sees f words keys) (sym (a .visit)) (k .0), subst (λ (l : List ℕ). Counted l v) (sym (a .marks)) (subst (Counted (recordBy f words keys left r (row .depth + 1) m s .marks)) (sym (a .visit)) (k .1)))
+
+  pub child-sees : Sees f words keys v
+  child-sees = visit-kept .0
+
+  module _ {y : Visit} (ye : y ≡ childEnd f words keys (row .depth) x w v) where
+    ended : childEnd f words keys (row .depth) x w (recordBy f words keys left r (row .depth + 1) m s .visit) ≡ y
+    ended = ap (childEnd f words keys (row .depth) x w) (sym (a .visit)) ∙ sym ye
+
+    pub row-breaks : y ≡ Ill → Row-answers g Ill m′
+    row-breaks i =
+        let q = sym (g .same-answer) ∙ row-ill f words keys left row places w m s x r (h .starts) (ended ∙ i) in
+        (sym (ap (λ (x : Way). x .visit) q), a .marks ∙ sym (ap (λ (x : Way). x .marks) q))
+
+    pub row-goes : {u : ℕ} {z : Seen} → y ≡ Well u z → Going f words keys left row m₀ s₀ (255 - x) u m′ z
+    row-goes {u} {z} i =
+        let k = child-kept f words keys (row .depth) x w m′ v (g .ready .witness) visit-kept in
+        let j : Kept f words keys m′ (Well u z) = subst (Kept f words keys m′) (sym ye ∙ i) k in
+        record {
+          ready =
               record {
-                ready =
-                    record {
-                      frame = g .ready .frame;
-                      there = g .ready .there;
-                      within = omega (arith, child-starts .byte);
-                      witness = leaf-witness f words keys (j .0);
-                      counted = j .1;
-                      shallow = g .ready .shallow;
-                    };
-                same-answer =
-                    ap (λ (l : List ℕ). rowWay f words keys left row (x + 1) u l z) me
-                    ∙ sym (row-well f words keys left row b w m s x r (child-starts .parts) u z (ended ∙ i))
-                    ∙ g .same-answer;
-                same-length = n ∙ g .same-length;
-              }
+                frame = g .ready .frame;
+                there = g .ready .there;
+                within = omega arith;
+                witness = leaf-witness f words keys (j .0);
+                counted = j .1;
+                shallow = g .ready .shallow;
+              };
+          same-answer =
+              ap (λ (l : List ℕ). rowWay f words keys left row (255 - x) u l z) (a .marks)
+              ∙ sym (row-well f words keys left row places w m s x r (h .starts) u z (ended ∙ i))
+              ∙ g .same-answer;
+          same-length = a .same-length;
+        }

@@ -403,9 +403,9 @@ module _ (f : Frame) (words keys : List ℕ) where
         new-turn (suc l) ref d m s t x e o j (arrive-inner f words keys (suc l) x (p .0) (p .1) (startAt f x) refl k n refl (λ q. omega arith)) in
         let h = branches fr (suc l) ref d m s row turn in
         let below : Way = rowBy f words keys (recordBy f words keys l) (d + getD rec 2 0) 0 (rowOf f words row) m′ s in
-        let below-is : rowWay f words keys (suc l - 1) row 0 0 (reached f ref m) s ≡ below =
-        ap (λ (i : ℕ). rowWay f words keys i row 0 0 (reached f ref m) s) (let q : suc l - 1 ≡ l = omega arith in q)
-        ∙ ap (λ (cs : List (ℕ × ℕ)). rowBy f words keys (recordBy f words keys l) (d + getD rec 2 0) 0 cs (reached f ref m) s) (row-whole f words row (h .there) 0 refl)
+        let below-is : rowWay f words keys (suc l - 1) row 256 0 (reached f ref m) s ≡ below =
+        ap (λ (i : ℕ). rowWay f words keys i row 256 0 (reached f ref m) s) (let q : suc l - 1 ≡ l = omega arith in q)
+        ∙ ap (λ (cs : List (ℕ × ℕ)). rowBy f words keys (recordBy f words keys l) (d + getD rec 2 0) 0 cs (reached f ref m) s) (row-whole f words row (h .there) (256 - 256) refl)
         ∙ ap (λ (u : List ℕ). rowBy f words keys (recordBy f words keys l) (d + getD rec 2 0) 0 (rowOf f words row) u s) (new-reached (suc l) ref d m s t x e o j) in
         let way-is : recordBy f words keys (suc l) ref d m s ≡ way (recordEnd f words keys row d (below .visit)) (below .marks) =
         record-branch f words keys (suc l) ref d m s row turn h ∙ ap (λ (y : Way). way (recordEnd f words keys row d (y .visit)) (y .marks)) below-is in

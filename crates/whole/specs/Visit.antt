@@ -1,5 +1,5 @@
 -- The check's way, a record and its children by turns, with the marks as it leaves them.
-use Prim.Native.Nat.{ℕ, zero, suc, _+_, _*_, _≤_}
+use Prim.Native.Nat.{ℕ, zero, suc, _+_, _-_, _*_, _≤_}
 use mathlib.Core.List.{List, [], _∷_}
 use mathlib.Core.Bool.{_&&_}
 use lib.Dec.{eqb, leb}
@@ -110,9 +110,9 @@ unfoldable pub recordBy : Frame → List ℕ → List ℕ → ℕ → ℕ → �
 recordBy f words keys zero = recordWith f words keys 0 (λ ref depth m s. way Ill m)
 recordBy f words keys (suc left) = recordWith f words keys (suc left) (recordBy f words keys left)
 
--- a row from a byte on
+-- a row with so many of its 256 places left, the last ones
 abbrev pub rowWay : Frame → List ℕ → List ℕ → ℕ → Row → ℕ → ℕ → List ℕ → Seen → Way
-rowWay f words keys left row byte w m s = rowBy f words keys (recordBy f words keys left) (row .depth) w (rowFrom byte (rowOf f words row)) m s
+rowWay f words keys left row places w m s = rowBy f words keys (recordBy f words keys left) (row .depth) w (rowFrom (256 - places) (rowOf f words row)) m s
 
 -- ── what holds on the way ──
 -- what is handed up is a leaf that obeys its rule
@@ -131,11 +131,11 @@ pub record RecordReady (f : Frame) (words keys : List ℕ) (left depth : ℕ) (s
   pub counted : s .count ≤ howMany nonzero m
   pub shallow : depth + left * 256 ≤ 65536
 
--- before the rest of a row, from a byte on: the same, the row's record is there and obeys its rule, and its witness is a leaf or none yet
-pub record RowReady (f : Frame) (words keys : List ℕ) (left : ℕ) (row : Row) (byte w : ℕ) (s : Seen) (m : List ℕ) : Type 0 where
+-- before the rest of a row, with so many places left: the same, the row's record is there and obeys its rule, and its witness is a leaf or none yet
+pub record RowReady (f : Frame) (words keys : List ℕ) (left : ℕ) (row : Row) (places w : ℕ) (s : Seen) (m : List ℕ) : Type 0 where
   pub frame : FrameOf f words keys
   pub there : InnerThere (f .form) words (row .kind) (row .start)
-  pub within : byte ≤ 256
+  pub within : places ≤ 256
   pub witness : WitnessSeen f words keys w
   pub counted : s .count ≤ howMany nonzero m
   pub shallow : row .depth + 1 + left * 256 ≤ 65536

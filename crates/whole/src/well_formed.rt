@@ -207,7 +207,8 @@ pub fn check_record(
     record_end(words, keys, f, row, depth, v)
 }
 
-// A row, child by child in byte order. A loop, so that no child takes stack of its own; each goes by `check_record`.
+// A row, child by child in byte order: each turn of the loop leaves the places past its child, so fewer. It is a loop, so that no child takes stack of
+// its own; each goes by `check_record`.
 fn check_row(
     marks: &mut [u8],
     words: &[u32],
@@ -217,14 +218,14 @@ fn check_row(
     row: Row,
     s: Seen,
 ) -> Visit
-    requires { ⌜ RowReady f (now words) (now keys) left row 0 0 s (now marks) ⌝ }
-    ensures { λ r. ⌜ (r ≡ rowWay f (now (words .entry)) (now (keys .entry)) left row 0 0 (now (marks .entry)) s .visit) × (now (marks .exit) ≡ rowWay f (now (words .entry)) (now (keys .entry)) left row 0 0 (now (marks .entry)) s .marks) ⌝ }
+    requires { ⌜ RowReady f (now words) (now keys) left row 256 0 s (now marks) ⌝ }
+    ensures { λ r. ⌜ (r ≡ rowWay f (now (words .entry)) (now (keys .entry)) left row 256 0 (now (marks .entry)) s .visit) × (now (marks .exit) ≡ rowWay f (now (words .entry)) (now (keys .entry)) left row 256 0 (now (marks .entry)) s .marks) ⌝ }
 {
-    let mut byte: usize = 0;
+    let mut places_left: usize = 256;
     let mut w: u32 = 0;
     let mut seen = s;
-    while byte <= 255 {
-        let c = row_child(words, f.form, row, byte);
+    while places_left > 0 {
+        let c = row_child(words, f.form, row, 256 - places_left);
         let Entry::Child(b, r) = c else {
             return row_end(w, seen);
         };
@@ -233,7 +234,7 @@ fn check_row(
         let Visit::Well(y, z) = x else {
             return Visit::Ill;
         };
-        byte = b as usize + 1;
+        places_left = 255 - b as usize;
         w = y;
         seen = z;
     }
