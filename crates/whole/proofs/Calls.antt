@@ -87,13 +87,27 @@ module _ {words keys : List ℕ} (scratch : List ℕ) {f : Frame} (w : FrameOf f
   pub check-short : length scratch < placesIn f → answer ShortScratch scratch ≡ checkOf words keys scratch
   check-short h = ap (λ (b : Bool). choose b (answer ShortScratch scratch) done) (sym (lt-ltb (length scratch) (placesIn f) h)) ∙ framed-by
 
-  -- the marks, m, are written over by the zeros z
-  pub check-done : {n : ℕ} {b : Bool} (m : List ℕ) {z : List ℕ} → n ≡ placesIn f → n ≤ length scratch → wholeBy f words keys ≡ b → length m ≡ placesIn f → z ≡ replicate (length (take (n - 0) (m ++ drop (n - 0) scratch))) 0
-      → answer (choose b Sound Damaged) (z ++ drop (n - 0) (m ++ drop (n - 0) scratch)) ≡ checkOf words keys scratch
-  check-done {n} {b} m {z} e h q long ze =
-      ap (λ (t : Bool). answer (choose t Sound Damaged) (z ++ drop (n - 0) (m ++ drop (n - 0) scratch))) (sym q)
-      ∙ ap (λ (l : List ℕ). answer (choose (wholeBy f words keys) Sound Damaged) (l ++ drop (n - 0) (m ++ drop (n - 0) scratch))) (ze ∙ ap (λ (l : List ℕ). replicate (length l) 0) (take-at m (drop (n - 0) scratch) (n - 0) (long ∙ sym (sub-zero n ∙ e))) ∙ ap (λ (i : ℕ). replicate i 0) long)
+  check-done : placesIn f ≤ length scratch → done ≡ checkOf words keys scratch
+  check-done h = ap (λ (b : Bool). choose b (answer ShortScratch scratch) done) (sym (le-ltb (length scratch) (placesIn f) h)) ∙ framed-by
+
+-- the check is over: r was found, with the marks m in the first n bytes of scratch, and then the zeros z
+pub record Finished (words keys scratch : List ℕ) (f : Frame) (n : ℕ) (r : Bool) (m z : List ℕ) : Type 0 where
+  pub frame : FrameOf f words keys
+  pub places : n ≡ placesIn f
+  pub room : n ≤ length scratch
+  pub sound : r ≡ wholeBy f words keys
+  pub long : length m ≡ placesIn f
+  pub zeros : z ≡ replicate (length (take (n - 0) (m ++ drop (n - 0) scratch))) 0
+
+module _ {words keys scratch : List ℕ} {f : Frame} {n : ℕ} {r : Bool} {m z : List ℕ} (h : Finished words keys scratch f n r m z) where
+  marks-long : length m ≡ n - 0
+  marks-long = h .long ∙ sym (sub-zero n ∙ h .places)
+
+  pub check-finished : (b : Bool) → r ≡ b → answer (choose b Sound Damaged) (z ++ drop (n - 0) (m ++ drop (n - 0) scratch)) ≡ checkOf words keys scratch
+  check-finished b e =
+      ap (λ (t : Bool). answer (choose t Sound Damaged) (z ++ drop (n - 0) (m ++ drop (n - 0) scratch))) (sym e ∙ h .sound)
+      ∙ ap (λ (l : List ℕ). answer (choose (wholeBy f words keys) Sound Damaged) (l ++ drop (n - 0) (m ++ drop (n - 0) scratch)))
+      (h .zeros ∙ ap (λ (l : List ℕ). replicate (length l) 0) (take-at m (drop (n - 0) scratch) (n - 0) marks-long) ∙ ap (λ (i : ℕ). replicate i 0) (h .long))
       ∙ ap (λ (l : List ℕ). answer (choose (wholeBy f words keys) Sound Damaged) (replicate (placesIn f) 0 ++ l))
-      (drop-at m (drop (n - 0) scratch) (n - 0) (long ∙ sym (sub-zero n ∙ e)) ∙ ap (λ (i : ℕ). drop i scratch) (sub-zero n ∙ e))
-      ∙ ap (λ (b : Bool). choose b (answer ShortScratch scratch) done) (sym (le-ltb (length scratch) (placesIn f) (subst (λ (k : ℕ). k ≤ length scratch) e h)))
-      ∙ framed-by
+      (drop-at m (drop (n - 0) scratch) (n - 0) marks-long ∙ ap (λ (i : ℕ). drop i scratch) (sub-zero n ∙ h .places))
+      ∙ check-done scratch (h .frame) (subst (λ (k : ℕ). k ≤ length scratch) (h .places) (h .room))

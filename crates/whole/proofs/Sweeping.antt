@@ -1,12 +1,12 @@
 -- Blank records, and the sweep over a pool.
-use Prim.Native.Nat.{ℕ, zero, suc, _+_, _-_, _*_, _/_, _%_, _≤_, _<_}
+use Prim.Native.Nat.{ℕ, zero, suc, _+_, _*_, _/_, _%_, _≤_, _<_}
 use mathlib.Core.Path.{_≡_, refl, sym, ap, _∙_}
 use mathlib.Core.List.{List}
 use mathlib.Core.Bool.{Bool, true, false, _&&_, and-false}
 use native.Mathlib.Omega.{arith}
 use native.Mathlib.Numerals.{add-one}
 use native.Mathlib.Decide.{ℕ-discrete}
-use lib.ListN.{getD}
+use lib.ListN.{length, getD}
 use lib.Dec.{ltb}
 use borrow.Author.Tests.{lt-ltb}
 use Rattle.lists.specs.Scan.{choose, allPass, atMost}
@@ -19,25 +19,42 @@ use Rattle.frames.proofs.Frames.{framed}
 use Rattle.frames.proofs.Places.{pool-by}
 use Rattle.frames.specs.declared.frame.Frame.{Frame}
 use Rattle.records.specs.View.{blankAt}
-use Rattle.art.specs.Stores.{Place, leaf-place, inner-place}
+use Rattle.art.specs.Stores.{Place}
+use Rattle.tree.proofs.Arrivals.{leaf-named, inner-named, leaf-in, inner-in}
 use Rattle.whole.specs.Marks.{markAt, unmarked}
 use Rattle.whole.specs.Sweep.{allUnder, sweptAt, sweptPool, swept}
 
--- ── a blank record, by its place and first word ──
-module _ (f : Frame) (words keys : List ℕ) (x : Place) (start : ℕ) (s : start ≡ startAt f x) where
-  pub blank-leaf : (n : ℕ) → x ≡ leaf-place n → {a b : Bool} → a ≡ allPass (atMost 0) (between words start (start + 6)) → b ≡ allPass (atMost 0) (keyAt f keys n) → a && b ≡ blankAt f words keys x
-  blank-leaf n e {a} {b} p q =
-      ap (λ (t : Bool). t && b) p
-      ∙ ap (λ (t : Bool). allPass (atMost 0) (between words start (start + 6)) && t) q
-      ∙ ap (λ (i : ℕ). allPass (atMost 0) (between words i (i + 6)) && allPass (atMost 0) (keyAt f keys n)) (s ∙ ap (startAt f) e)
-      ∙ ap (blankAt f words keys) (sym e)
+-- ── the record that a reference names, by its first word ──
+-- a record of a pool, of a block whose frame is known
+pub record RecordHere (f : Frame) (words keys : List ℕ) (ref start : ℕ) : Type 0 where
+  pub frame : FrameOf f words keys
+  pub pool : inPool f (placeAt ref) ≡ true
+  pub first : start ≡ startAt f (placeAt ref)
 
-  pub blank-inner : (k n : ℕ) → x ≡ inner-place k n → {a : Bool} {z : ℕ} → z ≡ recordWords (f .form) k → a ≡ allPass (atMost 0) (between words start (start + z)) → a ≡ blankAt f words keys x
-  blank-inner k n e {a} {z} h p =
-      p
-      ∙ ap (λ (i : ℕ). allPass (atMost 0) (between words start (start + i))) h
-      ∙ ap (λ (i : ℕ). allPass (atMost 0) (between words i (i + recordWords (f .form) k))) (s ∙ ap (startAt f) e)
-      ∙ ap (blankAt f words keys) (sym e)
+module _ {f : Frame} {words keys : List ℕ} {ref start : ℕ} (h : RecordHere f words keys ref start) where
+  -- a leaf: its words and its key bytes lie within the slices, and it is blank where they are 0
+  module _ (k : ref % 8 ≡ 5) where
+    pub leaf-within : (start + 6 ≤ length words) × (ref / 8 * f .form .limit + f .form .limit ≤ length keys)
+    leaf-within = leaf-in (h .frame) (placeAt ref) (ref / 8) start (leaf-named ref k) (h .first) (h .pool)
+
+    pub blank-leaf : {a b : Bool} → a ≡ allPass (atMost 0) (between words start (start + 6)) → b ≡ allPass (atMost 0) (keyAt f keys (ref / 8)) → a && b ≡ blankAt f words keys (placeAt ref)
+    blank-leaf {a} {b} p q =
+        ap (λ (t : Bool). t && b) p
+        ∙ ap (λ (t : Bool). allPass (atMost 0) (between words start (start + 6)) && t) q
+        ∙ ap (λ (i : ℕ). allPass (atMost 0) (between words i (i + 6)) && allPass (atMost 0) (keyAt f keys (ref / 8))) (h .first ∙ ap (startAt f) (leaf-named ref k))
+        ∙ ap (blankAt f words keys) (sym (leaf-named ref k))
+
+  -- an inner record: its kind is one of the table's, its words lie within the slice, and it is blank where they are 0
+  module _ (k : ref % 8 ≡ 5 → ⊥) where
+    pub inner-within : ((1 ≤ ref % 8) × (ref % 8 ≤ 4)) × (start + recordWords (f .form) (ref % 8) ≤ length words)
+    inner-within = inner-in (h .frame) (placeAt ref) (ref % 8) (ref / 8) start (inner-named ref k) (h .first) (h .pool)
+
+    pub blank-inner : {a : Bool} {z : ℕ} → z ≡ recordWords (f .form) (ref % 8) → a ≡ allPass (atMost 0) (between words start (start + z)) → a ≡ blankAt f words keys (placeAt ref)
+    blank-inner {a} {z} e p =
+        p
+        ∙ ap (λ (i : ℕ). allPass (atMost 0) (between words start (start + i))) e
+        ∙ ap (λ (i : ℕ). allPass (atMost 0) (between words i (i + recordWords (f .form) (ref % 8)))) (h .first ∙ ap (startAt f) (inner-named ref k))
+        ∙ ap (blankAt f words keys) (sym (inner-named ref k))
 
 -- ── each number below ──
 pub under-next : (n : ℕ) (p : ℕ → Bool) → allUnder n p ≡ true → p n ≡ true → allUnder (n + 1) p ≡ true

@@ -1,38 +1,48 @@
 -- `check::check` meets its contract: each return is a case of `checkOf`.
-use mathlib.Core.Path.{sym, _∙_}
+use mathlib.Core.Bool.{true, false}
 use native.Mathlib.Omega.{arith}
 use Rattle.frames.proofs.Frames.{framed}
 use Rattle.tree.proofs.Arrivals.{fails, holds}
-use Rattle.whole.proofs.Calls.{check-unframed, check-short, check-done}
+use Rattle.whole.proofs.Calls.{check-unframed, check-short, Finished, check-finished}
 use borrow.Author.Needs.{needs}
 use Rattle.whole.proofs.check.check.Statement.{statement}
 use Rattle.whole.proofs.check.check.Tie as tie
 
+-- back to the entry, to the frame, and to what the whole check finds
+abbrev to-entry : tie.After-frame-at → tie.Start
+to-entry c = c .before .before .before .before .before .before
+
+abbrev to-frame : tie.After-whole-anew → tie.After-frame-at
+to-frame c = c .before .before .before .before
+
+abbrev to-whole : tie.After-slice-known3 → tie.After-whole-anew
+to-whole c = c .before .before .before .before .before .before
+
+-- the marks are cleared again
+finished : (c : tie.After-slice-known3) → let k = to-whole c in let a = to-entry (to-frame k) .args in
+    Finished (a .words .now) (a .keys .now) (a .scratch .now) (to-frame k .frame-at .result) (k .before .before .before .places-in .result) (k .whole-anew .result) (k .whole-anew .last .0) (c .before .before .clear-bytes .last .0)
+finished c =
+    let k = to-whole c in
+    record {
+      frame = to-frame k .frame-at .ensures;
+      places = k .before .before .before .places-in .ensures;
+      room = omega arith;
+      sound = k .whole-anew .ensures .0;
+      long = k .whole-anew .ensures .1;
+      zeros = c .before .before .clear-bytes .ensures;
+    }
+
 returns : tie.Need-returns
-returns c = let s = c .before .before .before .before .before .args in check-unframed (s .words .now) (s .keys .now) (s .scratch .now) (fails (c .before .frame-fits .ensures) (c .if1 .taken))
-
-frame-at-requires : tie.Need-frame-at-requires
-frame-at-requires c κs = holds (c .before .frame-fits .ensures) (c .if1 .left)
-
-places-in-requires : tie.Need-places-in-requires
-places-in-requires c κs = framed (c .frame-at .ensures)
+returns c = let a = c .before .before .before .before .before .args in check-unframed (a .words .now) (a .keys .now) (a .scratch .now) (fails (c .before .frame-fits .ensures) (c .if1 .taken))
 
 returns-2 : tie.Need-returns-2
-returns-2 c =
-    let s = c .before .before .before .before .before .before .before .before .args in
-    check-short (s .scratch .now) (c .before .before .frame-at .ensures) (omega (arith, c .before .places-in .ensures))
+returns-2 c = let k = c .before .before in check-short (to-entry k .args .scratch .now) (k .frame-at .ensures) (omega (arith, c .before .places-in .ensures))
 
 returns-3 : tie.Need-returns-3
-returns-3 c =
-    let s = c .before .before .before .before .before .before .before .before .before .before .before .before .before .before .before .before .before .args in
-    let r = c .before .before .before .before .before .before .before .whole-anew .ensures in
-    check-done (s .scratch .now) (c .before .before .before .before .before .before .before .before .before .before .before .frame-at .ensures) (c .before .before .before .before .before .before .before .whole-anew .last .0) (c .before .before .before .before .before .before .before .before .before .before .places-in .ensures) (omega arith) (sym (r .0) ∙ c .if3 .taken) (r .1) (c .before .before .before .clear-bytes .ensures)
+returns-3 c = check-finished (finished (c .before)) true (c .if3 .taken)
 
 returns-4 : tie.Need-returns-4
-returns-4 c =
-    let s = c .before .before .before .before .before .before .before .before .before .before .before .before .before .before .before .before .before .args in
-    let r = c .before .before .before .before .before .before .before .whole-anew .ensures in
-    check-done (s .scratch .now) (c .before .before .before .before .before .before .before .before .before .before .before .frame-at .ensures) (c .before .before .before .before .before .before .before .whole-anew .last .0) (c .before .before .before .before .before .before .before .before .before .before .places-in .ensures) (omega arith) (sym (r .0) ∙ c .if3 .left) (r .1) (c .before .before .before .clear-bytes .ensures)
+returns-4 c = check-finished (finished (c .before)) false (c .if3 .left)
 
 pub check-spec : {M : Type 1} → statement M
 check-spec =
@@ -40,8 +50,8 @@ check-spec =
     (tie.spec
     (λ c κs. search needs)
     returns
-    frame-at-requires
-    places-in-requires
+    (λ c κs. holds (c .before .frame-fits .ensures) (c .if1 .left))
+    (λ c κs. framed (c .frame-at .ensures))
     returns-2
     (λ c. search needs)
     (λ c. search needs)
