@@ -90,7 +90,7 @@ delete-kept words keys scratch tag bytes =
     delete-cases words keys tag (λ o. FrameKept words keys (o .words) (o .keys)) (λ a r e. kept words keys)
     (λ r s cut n gap e. fits-same _ _ _ _ (s .fits) (delete-sound s tag bytes e .0 .fits) (delete-frame s tag bytes e)) scratch
 
--- calls after start never change the frame, whatever the memory holds
+-- whatever the memory holds, no call but start touches a word of the frame
 pub frame-kept : (c : Call) → NoStart c → CallBytes c → (s : Slices) → Bytes (s .keys) → FrameKept (s .words) (s .keys) (run c s .slices .words) (run c s .slices .keys)
 frame-kept (start form c) h b s k = absurd h
 frame-kept (query q) h b s k = kept (s .words) (s .keys)

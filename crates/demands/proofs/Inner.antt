@@ -76,7 +76,7 @@ module _ (f : Frame) (words keys : List ℕ) where
       let is : (k : ℕ) → k ≤ 4 → usedOf f words k ≡ sum one (cellOf f words keys) (inner-place k) (getD (f .caps) k 0) = λ k h. below-counts k (getD (f .caps) k 0) h (omega arith) in
       omega (arith, is 1 (omega arith), is 2 (omega arith), is 3 (omega arith), is 4 (omega arith))
 
--- used inner records equal the drawing's branchings
+-- as many inner records are in use as the drawing has branchings
 pub used-inner-drawn : {words keys : List ℕ} (s : Sound words keys) → usedInner words ≡ branchings (draw (totals (held (s .tree))))
 used-inner-drawn {words} {keys} s =
     used-four (frame words) words keys
