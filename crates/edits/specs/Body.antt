@@ -6,7 +6,8 @@ use lib.Dec.{eqb, leb}
 use Rattle.lists.specs.Scan.{choose, is, atLeast, first}
 use Rattle.lists.specs.Part.{between}
 use Rattle.lists.specs.Edit.{shiftIn, shiftOut, padded}
-use Rattle.frames.specs.Kind.{childrenOf}
+use Rattle.frames.specs.Kind.{byteValues, slotPlaces, slotZero, childrenOf}
+use Rattle.records.specs.Own.{slotNumbers, slotRefs}
 use Rattle.records.specs.Row.{sortedRow, spread, refFor}
 use Rattle.edits.specs.Change.{refIn}
 use Rattle.edits.specs.declared.representation.Change.{Change}
@@ -43,15 +44,15 @@ sortedChange k body n byte (Replace ref) = sortedReplace k body n byte ref
 -- ── kind 3 ──
 -- a new child takes the lowest unused slot
 unfoldable pub slotAdd : List ℕ → ℕ → ℕ → List ℕ
-slotAdd body byte ref = set (set body byte (first (is 0) (between body 256 304) + 1)) (256 + first (is 0) (between body 256 304)) ref
+slotAdd body byte ref = set (set body byte (first (is 0) (slotRefs body) + 1)) (byteValues + first (is 0) (slotRefs body)) ref
 
--- a child less leaves a hole; behind 256 slot numbers, slot s, counted from 1, is place 255 + s
+-- a child less leaves a hole
 unfoldable pub slotRemove : List ℕ → ℕ → List ℕ
-slotRemove body byte = set (set body byte 0) (255 + getD body byte 0) 0
+slotRemove body byte = set (set body byte 0) (slotZero + getD body byte 0) 0
 
 -- another reference at the place that the slot number names
 unfoldable pub slotReplace : List ℕ → ℕ → ℕ → List ℕ
-slotReplace body byte ref = set body (255 + getD body byte 0) ref
+slotReplace body byte ref = set body (slotZero + getD body byte 0) ref
 
 -- by the change
 abbrev pub slotChange : List ℕ → ℕ → Change → List ℕ
@@ -65,7 +66,7 @@ unfoldable pub bodyChange : ℕ → List ℕ → ℕ → ℕ → Change → List
 bodyChange kind body n byte change =
     choose (leb kind 2) (sortedChange (childrenOf kind) body n byte change) (choose (eqb kind 3) (slotChange body byte change) (set body byte (refIn change)))
 
--- ── 256 places, one for each byte: the references of a body, and of a row ──
+-- ── a place for each byte: the references of a body, and of a row ──
 -- g of each of the m numbers from b on
 abbrev pub tab : ℕ → ℕ → (ℕ → ℕ) → List ℕ
 tab zero b g = []
@@ -73,7 +74,7 @@ tab (suc m) b g = g b ∷ tab m (suc b) g
 
 -- the references of a row by their bytes
 abbrev pub rowSpread : List (ℕ × ℕ) → List ℕ
-rowSpread row = tab 256 0 (λ b. refFor b row)
+rowSpread row = tab byteValues 0 (λ b. refFor b row)
 
 -- those of a body of kind 1 or 2, with k places of which n are used
 unfoldable pub sortedSpread : ℕ → List ℕ → ℕ → List ℕ
@@ -81,9 +82,9 @@ sortedSpread k body n = rowSpread (sortedRow k body n)
 
 -- those of a body of kind 3: for each byte what its slot number names
 unfoldable pub slotSpread : List ℕ → List ℕ
-slotSpread body = spread (between body 256 304) (between body 0 256)
+slotSpread body = spread (slotRefs body) (slotNumbers body)
 
--- by the kind; a body of kind 4 is these 256 places
+-- by the kind; a body of kind 4 is these places
 unfoldable pub bodySpread : ℕ → List ℕ → ℕ → List ℕ
 bodySpread kind body n = choose (leb kind 2) (sortedSpread (childrenOf kind) body n) (choose (eqb kind 3) (slotSpread body) body)
 
@@ -107,9 +108,9 @@ slotFor b (e ∷ es) = choose (eqb (e .0) b) 1 (choose (eqb (slotFor b es) 0) 0 
 unfoldable pub sortedBody : ℕ → List (ℕ × ℕ) → List ℕ
 sortedBody k row = padded k (bytesOf row) ++ padded k (refsOf row)
 
--- the slot numbers of the 256 bytes, given in byte order, then the references
+-- the slot numbers of the bytes, given in byte order, then the references
 unfoldable pub slotBody : List (ℕ × ℕ) → List ℕ
-slotBody row = tab 256 0 (λ b. slotFor b row) ++ padded 48 (refsOf row)
+slotBody row = tab byteValues 0 (λ b. slotFor b row) ++ padded slotPlaces (refsOf row)
 
 -- one child more at the end of a body that is filled in byte order, after i others
 abbrev pub sortedPut : ℕ → ℕ → ℕ → ℕ → List ℕ → List ℕ
@@ -117,7 +118,7 @@ sortedPut k i byte ref body = set (set body i byte) (k + i) ref
 
 -- and so in kind 3, where it takes slot i + 1
 abbrev pub slotPut : ℕ → ℕ → ℕ → List ℕ → List ℕ
-slotPut i byte ref body = set (set body byte (i + 1)) (256 + i) ref
+slotPut i byte ref body = set (set body byte (i + 1)) (byteValues + i) ref
 
 -- by the kind
 unfoldable pub bodyOf : ℕ → List (ℕ × ℕ) → List ℕ

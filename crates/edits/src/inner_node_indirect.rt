@@ -1,53 +1,57 @@
-// The body of kind 3, written: 256 slot numbers, then 48 references.
+// The body of kind 3, written: a slot number for each byte, then the references that they name.
 ghost use mathlib.Core.Path.{_≡_};
 ghost use Prim.Native.Nat.{_≤_, _<_, _+_};
 ghost use lib.Dec.{eqb};
 ghost use lib.ListN.{length, getD, replicate};
 ghost use Rattle.lists.specs.Scan.{choose, is, first, howMany, nonzero};
-ghost use Rattle.lists.specs.Part.{between};
+ghost use Rattle.frames.specs.Kind.{byteValues, slotPlaces, slotWords};
+ghost use Rattle.records.specs.Own.{slotRefs};
 ghost use Rattle.records.specs.Row.{directRow};
 ghost use Rattle.edits.specs.Change.{Needs};
 ghost use Rattle.edits.specs.Body.{slotAdd, slotRemove, slotReplace, slotChange, slotSpread, slotPut, slotBody};
 use super::representation::Change;
 use frames::frame::num;
+use frames::kind::BYTES;
+use frames::kind::SLOT_ZERO;
+use frames::kind::SLOTTED;
 use lists::scan;
 use records::inner_node_indirect::indirect_child;
 
 // A child in the lowest place that is not used.
 fn indirect_add(body: &mut [u32], byte: usize, reference: u32)
-    requires { ⌜ ((byte < 256) × (length (now body) ≡ 304)) × (first (is 0) (between (now body) 256 304) < 48) ⌝ }
+    requires { ⌜ ((byte < byteValues) × (length (now body) ≡ slotWords)) × (first (is 0) (slotRefs (now body)) < slotPlaces) ⌝ }
     ensures { λ _. ⌜ now (body .exit) ≡ slotAdd (now (body .entry)) byte reference ⌝ }
 {
-    let s = scan::first_equal(&body[256..304], 0);
-    let at = 256 + s;
+    let s = scan::first_equal(&body[BYTES..SLOTTED], 0);
+    let at = BYTES + s;
     body[byte] = s as u32 + 1;
     body[at] = reference;
 }
 
 // The child for a byte taken out; its place is left a hole.
 fn indirect_remove(body: &mut [u32], byte: usize)
-    requires { ⌜ ((byte < 256) × (length (now body) ≡ 304)) × ((1 ≤ getD (now body) byte 0) × (getD (now body) byte 0 ≤ 48)) ⌝ }
+    requires { ⌜ ((byte < byteValues) × (length (now body) ≡ slotWords)) × ((1 ≤ getD (now body) byte 0) × (getD (now body) byte 0 ≤ slotPlaces)) ⌝ }
     ensures { λ _. ⌜ now (body .exit) ≡ slotRemove (now (body .entry)) byte ⌝ }
 {
     let slot = num(body, byte);
-    let at = 255 + slot;
+    let at = SLOT_ZERO + slot;
     body[byte] = 0;
     body[at] = 0;
 }
 
 // Another reference for the child of a byte.
 fn indirect_replace(body: &mut [u32], byte: usize, reference: u32)
-    requires { ⌜ ((byte < 256) × (length (now body) ≡ 304)) × ((1 ≤ getD (now body) byte 0) × (getD (now body) byte 0 ≤ 48)) ⌝ }
+    requires { ⌜ ((byte < byteValues) × (length (now body) ≡ slotWords)) × ((1 ≤ getD (now body) byte 0) × (getD (now body) byte 0 ≤ slotPlaces)) ⌝ }
     ensures { λ _. ⌜ now (body .exit) ≡ slotReplace (now (body .entry)) byte reference ⌝ }
 {
     let slot = num(body, byte);
-    let at = 255 + slot;
+    let at = SLOT_ZERO + slot;
     body[at] = reference;
 }
 
 // A change of the children, by its cases.
 pub fn indirect_change(body: &mut [u32], byte: usize, change: Change)
-    requires { ⌜ ((byte < 256) × (length (now body) ≡ 304)) × Needs change (first (is 0) (between (now body) 256 304) < 48) ((1 ≤ getD (now body) byte 0) × (getD (now body) byte 0 ≤ 48)) ⌝ }
+    requires { ⌜ ((byte < byteValues) × (length (now body) ≡ slotWords)) × Needs change (first (is 0) (slotRefs (now body)) < slotPlaces) ((1 ≤ getD (now body) byte 0) × (getD (now body) byte 0 ≤ slotPlaces)) ⌝ }
     ensures { λ _. ⌜ now (body .exit) ≡ slotChange (now (body .entry)) byte change ⌝ }
 {
     match change {
@@ -57,14 +61,14 @@ pub fn indirect_change(body: &mut [u32], byte: usize, change: Change)
     }
 }
 
-// The references by their bytes: 256 places, all nothing, filled from the 48 slots.
-pub fn indirect_spread(body: &[u32]) -> [u32; 256]
-    requires { ⌜ length (now body) ≡ 304 ⌝ }
+// The references by their bytes: a place for each, all nothing, filled from the slots.
+pub fn indirect_spread(body: &[u32]) -> [u32; BYTES]
+    requires { ⌜ length (now body) ≡ slotWords ⌝ }
     ensures { λ r. ⌜ r ≡ slotSpread (now (body .entry)) ⌝ }
 {
-    let mut places = [0u32; 256];
+    let mut places = [0u32; BYTES];
     let mut byte = 0;
-    while byte < 256 {
+    while byte < BYTES {
         places[byte] = indirect_child(body, byte);
         byte += 1;
     }
@@ -73,27 +77,27 @@ pub fn indirect_spread(body: &[u32]) -> [u32; 256]
 
 // One child more in slot s + 1, where there is a reference; says how many slots are used then.
 fn indirect_put(body: &mut [u32], s: usize, byte: usize, reference: u32) -> usize
-    requires { ⌜ ((choose (eqb reference 0) s (s + 1) ≤ 48) × (byte < 256)) × (length (now body) ≡ 304) ⌝ }
+    requires { ⌜ ((choose (eqb reference 0) s (s + 1) ≤ slotPlaces) × (byte < byteValues)) × (length (now body) ≡ slotWords) ⌝ }
     ensures { λ r. ⌜ (r ≡ choose (eqb reference 0) s (s + 1)) × (now (body .exit) ≡ choose (eqb reference 0) (now (body .entry)) (slotPut s byte reference (now (body .entry)))) ⌝ }
 {
     if reference == 0 {
         return s;
     }
-    let at = 256 + s;
+    let at = BYTES + s;
     let next = s + 1;
     body[byte] = next as u32;
     body[at] = reference;
     next
 }
 
-// Slots and references of 256 places into a body that is all 0; the slots are numbered in byte order.
-pub fn indirect_fill(body: &mut [u32], places: [u32; 256])
-    requires { ⌜ ((now body ≡ replicate 304 0) × (length places ≡ 256)) × (howMany nonzero places ≤ 48) ⌝ }
+// Slots and references of the places into a body that is all 0; the slots are numbered in byte order.
+pub fn indirect_fill(body: &mut [u32], places: [u32; BYTES])
+    requires { ⌜ ((now body ≡ replicate slotWords 0) × (length places ≡ byteValues)) × (howMany nonzero places ≤ slotPlaces) ⌝ }
     ensures { λ _. ⌜ now (body .exit) ≡ slotBody (directRow places) ⌝ }
 {
     let mut byte: usize = 0;
     let mut s: usize = 0;
-    while byte < 256 {
+    while byte < BYTES {
         s = indirect_put(body, s, byte, places[byte]);
         byte += 1;
     }

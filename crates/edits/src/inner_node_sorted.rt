@@ -6,11 +6,13 @@ ghost use lib.Dec.{eqb};
 ghost use lib.ListN.{length, replicate};
 ghost use Rattle.lists.specs.Scan.{choose, is, first, howMany, nonzero};
 ghost use Rattle.lists.specs.Part.{between};
+ghost use Rattle.frames.specs.Kind.{byteValues};
 ghost use Rattle.records.specs.Own.{sortedOk};
 ghost use Rattle.records.specs.Row.{directRow};
 ghost use Rattle.edits.specs.Change.{Needs};
 ghost use Rattle.edits.specs.Body.{sortedAdd, sortedRemove, sortedReplace, sortedChange, sortedSpread, sortedPut, sortedBody};
 use super::representation::Change;
+use frames::kind::BYTES;
 use lists::edit;
 use lists::scan;
 
@@ -58,12 +60,12 @@ pub fn sorted_change(body: &mut [u32], k: usize, n: usize, byte: u32, change: Ch
     }
 }
 
-// The references by their bytes: 256 places, those of the children filled.
-pub fn sorted_spread(body: &[u32], k: usize, n: usize) -> [u32; 256]
+// The references by their bytes: a place for each, those of the children filled.
+pub fn sorted_spread(body: &[u32], k: usize, n: usize) -> [u32; BYTES]
     requires { ⌜ ((n ≤ k) × (length (now body) ≡ k + k)) × (sortedOk k (now body) n ≡ true) ⌝ }
     ensures { λ r. ⌜ r ≡ sortedSpread k (now (body .entry)) n ⌝ }
 {
-    let mut places = [0u32; 256];
+    let mut places = [0u32; BYTES];
     let mut i = 0;
     while i < n {
         let byte = body[i] as usize;
@@ -88,14 +90,14 @@ fn sorted_put(body: &mut [u32], k: usize, i: usize, byte: u32, reference: u32) -
     i + 1
 }
 
-// Keys and references of 256 places, in byte order, into a body that is all 0.
-pub fn sorted_fill(body: &mut [u32], k: usize, places: [u32; 256])
-    requires { ⌜ ((now body ≡ replicate (k + k) 0) × (length places ≡ 256)) × (howMany nonzero places ≤ k) ⌝ }
+// Keys and references of the places, in byte order, into a body that is all 0.
+pub fn sorted_fill(body: &mut [u32], k: usize, places: [u32; BYTES])
+    requires { ⌜ ((now body ≡ replicate (k + k) 0) × (length places ≡ byteValues)) × (howMany nonzero places ≤ k) ⌝ }
     ensures { λ _. ⌜ now (body .exit) ≡ sortedBody k (directRow places) ⌝ }
 {
     let mut byte: usize = 0;
     let mut i: usize = 0;
-    while byte < 256 {
+    while byte < BYTES {
         i = sorted_put(body, k, i, byte as u32, places[byte]);
         byte += 1;
     }

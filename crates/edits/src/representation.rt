@@ -3,7 +3,7 @@ ghost use mathlib.Core.Path.{_≡_};
 ghost use Prim.Native.Nat.{_≤_, _<_};
 ghost use lib.ListN.{length, replicate};
 ghost use Rattle.lists.specs.Scan.{howMany, nonzero};
-ghost use Rattle.frames.specs.Kind.{childrenOf, bodyWords};
+ghost use Rattle.frames.specs.Kind.{byteValues, childrenOf, bodyWords};
 ghost use Rattle.frames.specs.Form.{recordWords, Stores};
 ghost use Rattle.records.specs.Words.{childCount};
 ghost use Rattle.records.specs.Own.{BodyFits, InnerFits, childOf, childAt};
@@ -19,6 +19,7 @@ use frames::form;
 use frames::form::Form;
 use frames::frame::num;
 use frames::kind;
+use frames::kind::BYTES;
 use lists::edit;
 use lists::scan;
 use prefix::Prefix;
@@ -44,7 +45,7 @@ fn reference_in(change: Change) -> u32
 
 // How many of n children there are afterwards.
 fn count_in(change: Change, n: u32) -> u32
-    requires { ⌜ (0 < n) × (n ≤ 256) ⌝ }
+    requires { ⌜ (0 < n) × (n ≤ byteValues) ⌝ }
     ensures { λ r. ⌜ r ≡ countIn change n ⌝ }
 {
     match change {
@@ -82,7 +83,7 @@ pub fn change_child(rec: &mut [u32], form: Form, kind: u32, byte: u8, change: Ch
 }
 
 // The references of a body with n children by their bytes.
-fn body_spread(body: &[u32], kind: u32, n: usize) -> [u32; 256]
+fn body_spread(body: &[u32], kind: u32, n: usize) -> [u32; BYTES]
     requires { ⌜ BodyFits kind (now body) n ⌝ }
     ensures { λ r. ⌜ r ≡ bodySpread kind (now (body .entry)) n ⌝ }
 {
@@ -96,8 +97,8 @@ fn body_spread(body: &[u32], kind: u32, n: usize) -> [u32; 256]
     inner_node_direct::direct_spread(body)
 }
 
-// The references by their bytes, in 256 places.
-pub fn spread_of(form: Form, rec: &[u32], kind: u32) -> [u32; 256]
+// The references by their bytes, a place for each.
+pub fn spread_of(form: Form, rec: &[u32], kind: u32) -> [u32; BYTES]
     requires { ⌜ InnerFits form kind (now rec) ⌝ }
     ensures { λ r. ⌜ r ≡ spreadOf form kind (now (rec .entry)) ⌝ }
 {
@@ -107,9 +108,9 @@ pub fn spread_of(form: Form, rec: &[u32], kind: u32) -> [u32; 256]
     body_spread(&rec[h..e], kind, n)
 }
 
-// The references of 256 places into a body that is all 0.
-fn body_fill(body: &mut [u32], kind: u32, places: [u32; 256])
-    requires { ⌜ (((1 ≤ kind) × (kind ≤ 4)) × (now body ≡ replicate (bodyWords kind) 0)) × ((length places ≡ 256) × (howMany nonzero places ≤ childrenOf kind)) ⌝ }
+// The references of the places into a body that is all 0.
+fn body_fill(body: &mut [u32], kind: u32, places: [u32; BYTES])
+    requires { ⌜ (((1 ≤ kind) × (kind ≤ 4)) × (now body ≡ replicate (bodyWords kind) 0)) × ((length places ≡ byteValues) × (howMany nonzero places ≤ childrenOf kind)) ⌝ }
     ensures { λ _. ⌜ now (body .exit) ≡ bodyOf kind (directRow places) ⌝ }
 {
     if kind <= 2 {
@@ -123,8 +124,8 @@ fn body_fill(body: &mut [u32], kind: u32, places: [u32; 256])
 }
 
 // The words of a record of this kind with this prefix and these children, whatever stood there: a new branching, a record that has grown or shrunk.
-pub fn build(rec: &mut [u32], form: Form, kind: u32, p: Prefix, places: [u32; 256])
-    requires { ⌜ (((1 ≤ kind) × (kind ≤ 4)) × (length (now rec) ≡ recordWords form kind)) × ((Stores form × (length (p .stored) ≡ 8)) × ((length places ≡ 256) × (howMany nonzero places ≤ childrenOf kind))) ⌝ }
+pub fn build(rec: &mut [u32], form: Form, kind: u32, p: Prefix, places: [u32; BYTES])
+    requires { ⌜ (((1 ≤ kind) × (kind ≤ 4)) × (length (now rec) ≡ recordWords form kind)) × ((Stores form × (length (p .stored) ≡ 8)) × ((length places ≡ byteValues) × (howMany nonzero places ≤ childrenOf kind))) ⌝ }
     ensures { λ _. ⌜ now (rec .exit) ≡ buildRec form kind p (directRow places) ⌝ }
 {
     let n = scan::count_nonzero(&places);

@@ -36,10 +36,27 @@ markOf kind = kindRow kind .mark
 abbrev pub bodyWords : ℕ → ℕ
 bodyWords kind = kindRow kind .words - 11
 
+-- ── the bodies of kinds 3 and 4 ──
+-- how many values a byte has: kind 4 has a reference for each, kind 3 a slot number
+abbrev pub byteValues : ℕ
+byteValues = 256
+
+-- how many references kind 3 has, by the table; slot numbers name them, from 1 on
+abbrev pub slotPlaces : ℕ
+slotPlaces = getD kindTable 2 noRow .children
+
+-- the words of kind 3's body: the slot numbers, then the references
+abbrev pub slotWords : ℕ
+slotWords = byteValues + slotPlaces
+
+-- where in that body a slot 0 would be: slot s is at slotZero + s
+abbrev pub slotZero : ℕ
+slotZero = byteValues - 1
+
 -- ── the rules of the table ──
--- the words after the head: kinds 1 and 2 two for each child, kind 3 256 slot numbers and one for each child, kind 4 one for each child
+-- the words after the head: kinds 1 and 2 two for each child, kind 3 a slot number for each byte and one for each child, kind 4 one for each child
 unfoldable pub layout : ℕ → ℕ → ℕ
-layout kind children = choose (leb kind 2) (children + children) (choose (leb kind 3) (256 + children) children)
+layout kind children = choose (leb kind 2) (children + children) (choose (leb kind 3) (byteValues + children) children)
 
 -- the children of the next smaller kind, 0 for kind 1
 unfoldable pub before : ℕ → ℕ
@@ -49,6 +66,6 @@ before kind = choose (leb 2 kind) (childrenOf (kind - 1)) 0
 pub record KindRules (kind : ℕ) : Type 0 where
   pub words : kindRow kind .words ≡ 11 + layout kind (childrenOf kind)
   pub least : 4 ≤ childrenOf kind
-  pub most : childrenOf kind ≤ 256
+  pub most : childrenOf kind ≤ byteValues
   pub mark : markOf kind ≡ before kind
   pub rise : before kind < childrenOf kind

@@ -33,6 +33,18 @@ pub const KINDS: [KindRow; 4] = [
     },
 ];
 
+// How many values a byte has: kind 4 has a reference for each, kind 3 a slot number.
+pub const BYTES: usize = 256;
+
+// How many references kind 3 has; slot numbers name them, from 1 on.
+pub const SLOTS: usize = KINDS[2].children as usize;
+
+// The words of kind 3's body: the slot numbers, then the references.
+pub const SLOTTED: usize = BYTES + SLOTS;
+
+// Where in that body a slot 0 would be: slot s is `SLOT_ZERO + s`.
+pub const SLOT_ZERO: usize = BYTES - 1;
+
 // The row of a kind.
 pub fn row_of(kind: u32) -> KindRow
     requires { ⌜ (1 ≤ kind) × (kind ≤ 4) ⌝ }

@@ -9,7 +9,7 @@ use Rattle.lists.specs.Scan.{choose, is, atMost, nonzero, allPass, first, howMa
 use Rattle.prefix.specs.Run.{capped}
 use Rattle.prefix.specs.declared.Prefix.{Prefix}
 use Rattle.lists.specs.Part.{between}
-use Rattle.frames.specs.Kind.{childrenOf, bodyWords}
+use Rattle.frames.specs.Kind.{byteValues, slotPlaces, slotWords, childrenOf, bodyWords}
 use Rattle.frames.specs.Form.{header, recordWords, storedOf}
 use Rattle.frames.specs.declared.form.Form.{Form}
 use Rattle.records.specs.Words.{usedAs, childCount, fullLength, tagLength}
@@ -35,6 +35,14 @@ sortedOk k body n =
     && allPass nonzero (between body k (k + n))
     && allPass (atMost 0) (between body (k + n) (k + k))
 
+-- kind 3: its slot numbers, one a byte
+abbrev pub slotNumbers : List ℕ → List ℕ
+slotNumbers body = between body 0 byteValues
+
+-- and behind them its places for references
+abbrev pub slotRefs : List ℕ → List ℕ
+slotRefs body = between body byteValues slotWords
+
 -- the places from number j on: a filled one is named by one slot number, an empty one by none
 abbrev pub named : List ℕ → ℕ → List ℕ → Bool
 named slots j [] = true
@@ -42,19 +50,19 @@ named slots j (r ∷ rs) = eqb (howMany (is (j + 1)) slots) (choose (nonzero r) 
 
 -- a list of counts: how many slots name each place, at the place's number
 pub record Tallied (slots t : List ℕ) : Type 0 where
-  pub each : (x : ℕ) → x < 49 → getD t x 0 ≡ howMany (is x) slots
+  pub each : (x : ℕ) → x < slotPlaces + 1 → getD t x 0 ≡ howMany (is x) slots
 
--- kind 3 with n children: slot numbers up to 48, n of the 48 places filled, each filled place named by one slot number and an empty one by none
+-- kind 3 with n children: no slot number past the last place, n of the places filled, each filled place named by one slot number and an empty one by none
 unfoldable pub indirectOk : List ℕ → ℕ → Bool
 indirectOk body n =
-    allPass (atMost 48) (between body 0 256)
-    && eqb (howMany nonzero (between body 256 304)) n
-    && named (between body 0 256) 0 (between body 256 304)
+    allPass (atMost slotPlaces) (slotNumbers body)
+    && eqb (howMany nonzero (slotRefs body)) n
+    && named (slotNumbers body) 0 (slotRefs body)
 
--- what of it settles the row: the slot numbers are at most 48 and name just the filled places
+-- what of it settles the row: the slot numbers are those of places, and name just the filled ones
 pub record SlotsFit (body : List ℕ) : Type 0 where
-  pub low : allPass (atMost 48) (between body 0 256) ≡ true
-  pub names : named (between body 0 256) 0 (between body 256 304) ≡ true
+  pub low : allPass (atMost slotPlaces) (slotNumbers body) ≡ true
+  pub names : named (slotNumbers body) 0 (slotRefs body) ≡ true
 
 -- kind 4 with n children: n of the references are not 0
 unfoldable pub directOk : List ℕ → ℕ → Bool
@@ -102,7 +110,7 @@ byslot refs slot = choose (eqb slot 0) 0 (getD refs (slot - 1) 0)
 
 -- kind 3: by the byte's slot number
 unfoldable pub indirectChild : List ℕ → ℕ → ℕ
-indirectChild body byte = byslot (between body 256 304) (getD body byte 0)
+indirectChild body byte = byslot (slotRefs body) (getD body byte 0)
 
 -- by the kind; kind 4 has it at the byte's own place
 unfoldable pub childOf : ℕ → List ℕ → ℕ → ℕ → ℕ

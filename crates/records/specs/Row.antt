@@ -8,7 +8,7 @@ use Rattle.lists.specs.Scan.{choose}
 use Rattle.lists.specs.Part.{between}
 use Rattle.frames.specs.Kind.{childrenOf}
 use Rattle.records.specs.Words.{childCount}
-use Rattle.records.specs.Own.{byslot, bodyPart}
+use Rattle.records.specs.Own.{slotNumbers, slotRefs, byslot, bodyPart}
 use Rattle.frames.specs.declared.form.Form.{Form}
 use Rattle.records.specs.declared.representation.Entry.{Entry}
 use Rattle.records.specs.declared.representation.Entry.the-variants.{Child, Nothing}
@@ -35,7 +35,7 @@ sortedRow k body n = beside (between body 0 n) (between body k (k + n))
 
 -- kind 3: each byte whose slot number names a filled place, with the reference there
 abbrev pub indirectRow : List ℕ → List (ℕ × ℕ)
-indirectRow body = filled 0 (spread (between body 256 304) (between body 0 256))
+indirectRow body = filled 0 (spread (slotRefs body) (slotNumbers body))
 
 -- kind 4: each byte whose own place is filled
 abbrev pub directRow : List ℕ → List (ℕ × ℕ)

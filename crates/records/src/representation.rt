@@ -2,7 +2,7 @@
 ghost use mathlib.Core.Path.{_≡_};
 ghost use Prim.Native.Nat.{_≤_};
 ghost use lib.ListN.{length};
-ghost use Rattle.frames.specs.Kind.{childrenOf, bodyWords};
+ghost use Rattle.frames.specs.Kind.{byteValues, childrenOf, bodyWords};
 ghost use Rattle.frames.specs.Form.{recordWords};
 ghost use Rattle.records.specs.Words.{childCount};
 ghost use Rattle.records.specs.Own.{bodyOk, innerOk, BodyFits, InnerFits, childOf, childAt};
@@ -109,7 +109,7 @@ pub fn nth_child(form: Form, rec: &[u32], kind: u32, i: usize) -> Entry
 
 // Of a body with n children the first at or after a byte.
 fn body_from(body: &[u32], kind: u32, n: usize, byte: usize) -> Entry
-    requires { ⌜ (byte ≤ 256) × BodyFits kind (now body) n ⌝ }
+    requires { ⌜ (byte ≤ byteValues) × BodyFits kind (now body) n ⌝ }
     ensures { λ r. ⌜ r ≡ entryFrom byte (bodyRow kind (now (body .entry)) n) ⌝ }
 {
     if kind <= 2 {
@@ -124,7 +124,7 @@ fn body_from(body: &[u32], kind: u32, n: usize, byte: usize) -> Entry
 
 // The first child at or after a byte; none past the last.
 pub fn child_from(form: Form, rec: &[u32], kind: u32, byte: usize) -> Entry
-    requires { ⌜ (byte ≤ 256) × InnerFits form kind (now rec) ⌝ }
+    requires { ⌜ (byte ≤ byteValues) × InnerFits form kind (now rec) ⌝ }
     ensures { λ r. ⌜ r ≡ entryFrom byte (rowAt form kind (now (rec .entry))) ⌝ }
 {
     let n = num(rec, header::CHILDREN);

@@ -16,6 +16,7 @@ use edits::representation::Change;
 use frames::form;
 use frames::frame;
 use frames::frame::Frame;
+use frames::kind::BYTES;
 use lists::edit;
 use prefix::Prefix;
 use records::header::prefix_at;
@@ -101,14 +102,14 @@ pub fn branch_at(
     let part = part_at(words, keys, f, reference);
     let a = part.start;
     let e = part.end;
-    let mut places = [0u32; 256];
+    let mut places = [0u32; BYTES];
     places[c as usize] = s;
     places[b as usize] = r;
     representation::build(&mut words[a..e], f.form, reference % 8, p, places);
 }
 
 // The references of a record by their bytes.
-fn spread_at(words: &[u32], keys: &[u8], f: Frame, reference: u32) -> [u32; 256]
+fn spread_at(words: &[u32], keys: &[u8], f: Frame, reference: u32) -> [u32; BYTES]
     requires { ⌜ FrameOf f (now words) (now keys) × InnerHere f (now words) (placeAt reference) ⌝ }
     ensures { λ r. ⌜ r ≡ spreadOf (f .form) (kindAt (placeAt reference)) (recordAt f (now (words .entry)) (placeAt reference)) ⌝ }
 {
