@@ -11,7 +11,7 @@ use Rattle.lists.specs.Scan.{choose, is, atMost, nonzero, first, howMany}
 use Rattle.lists.specs.Part.{between}
 use Rattle.lists.proofs.Tests.{all-at, all-by, first-le, first-none, count-all}
 use Rattle.lists.proofs.Parts.{between-length}
-use Rattle.frames.specs.Kind.{kindRow, childrenOf}
+use Rattle.frames.specs.Kind.{slotPlaces, kindRow, childrenOf}
 use Rattle.records.specs.Own.{BodyFits, sortedChild, indirectChild, childOf}
 use Rattle.records.proofs.Owns.{indirect-fits}
 use Rattle.lists.proofs.Pieces.{front-at}
@@ -66,7 +66,7 @@ first-empty l h = go (ltb (first (is 0) l) (length l)) refl
         filled : (i : ℕ) → i < length l → first (is 0) l ≡ length l → 0 < getD l i 0
         filled i k e = let z = eqb-false (getD l i 0) 0 (first-none (is 0) l e i k) in omega arith
 
-pub three-children : (kind : ℕ) → kind ≡ 3 → childrenOf kind ≡ 48
+pub three-children : (kind : ℕ) → kind ≡ 3 → childrenOf kind ≡ slotPlaces
 unfolding kindRow
 three-children kind e = ap childrenOf e
 

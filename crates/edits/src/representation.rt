@@ -60,13 +60,13 @@ fn body_change(body: &mut [u32], kind: u32, n: usize, byte: u8, change: Change)
     requires { ⌜ BodyFits kind (now body) n × Needs change (n < childrenOf kind) (0 < childOf kind (now body) n byte) ⌝ }
     ensures { λ _. ⌜ now (body .exit) ≡ bodyChange kind (now (body .entry)) n byte change ⌝ }
 {
-    if kind <= 2 {
-        let row = kind::row_of(kind);
-        inner_node_sorted::sorted_change(body, row.children as usize, n, byte as u32, change);
-    } else if kind == 3 {
-        inner_node_indirect::indirect_change(body, byte as usize, change);
-    } else {
-        inner_node_direct::direct_set(body, byte as usize, reference_in(change));
+    match kind {
+        3 => inner_node_indirect::indirect_change(body, byte as usize, change),
+        4 => inner_node_direct::direct_set(body, byte as usize, reference_in(change)),
+        _ => {
+            let row = kind::row_of(kind);
+            inner_node_sorted::sorted_change(body, row.children as usize, n, byte as u32, change)
+        }
     }
 }
 
@@ -87,14 +87,14 @@ fn body_spread(body: &[u32], kind: u32, n: usize) -> [u32; BYTES]
     requires { ⌜ BodyFits kind (now body) n ⌝ }
     ensures { λ r. ⌜ r ≡ bodySpread kind (now (body .entry)) n ⌝ }
 {
-    if kind <= 2 {
-        let row = kind::row_of(kind);
-        return inner_node_sorted::sorted_spread(body, row.children as usize, n);
+    match kind {
+        3 => inner_node_indirect::indirect_spread(body),
+        4 => inner_node_direct::direct_spread(body),
+        _ => {
+            let row = kind::row_of(kind);
+            inner_node_sorted::sorted_spread(body, row.children as usize, n)
+        }
     }
-    if kind == 3 {
-        return inner_node_indirect::indirect_spread(body);
-    }
-    inner_node_direct::direct_spread(body)
 }
 
 // The references by their bytes, a place for each.
@@ -113,13 +113,13 @@ fn body_fill(body: &mut [u32], kind: u32, places: [u32; BYTES])
     requires { ⌜ (((1 ≤ kind) × (kind ≤ 4)) × (now body ≡ replicate (bodyWords kind) 0)) × ((length places ≡ byteValues) × (howMany nonzero places ≤ childrenOf kind)) ⌝ }
     ensures { λ _. ⌜ now (body .exit) ≡ bodyOf kind (directRow places) ⌝ }
 {
-    if kind <= 2 {
-        let row = kind::row_of(kind);
-        inner_node_sorted::sorted_fill(body, row.children as usize, places);
-    } else if kind == 3 {
-        inner_node_indirect::indirect_fill(body, places);
-    } else {
-        inner_node_direct::direct_fill(body, places);
+    match kind {
+        3 => inner_node_indirect::indirect_fill(body, places),
+        4 => inner_node_direct::direct_fill(body, places),
+        _ => {
+            let row = kind::row_of(kind);
+            inner_node_sorted::sorted_fill(body, row.children as usize, places)
+        }
     }
 }
 

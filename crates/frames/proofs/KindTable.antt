@@ -7,7 +7,7 @@ use native.Mathlib.Omega.{arith}
 use lib.Dec.{eqb, leb, ltb, lit≤}
 use borrow.Author.Tests.{le-leb, leb-true, ltb-true, eqb-true}
 use Rattle.lists.specs.Scan.{choose}
-use Rattle.frames.specs.Kind.{kindTable, noRow, kindRow, childrenOf, bodyWords, layout, before, KindRules}
+use Rattle.frames.specs.Kind.{kindTable, noRow, kindRow, childrenOf, bodyWords, byteValues, slotWords, layout, before, KindRules}
 use Rattle.frames.specs.declared.kind.KindRow.{KindRow}
 use Rattle.lists.proofs.Tables.{both5, every-at}
 
@@ -47,13 +47,17 @@ pub sorted-words : (kind : ℕ) → 1 ≤ kind → kind ≤ 2 → bodyWords kind
 unfolding layout
 sorted-words k l h = omega (arith, kind-rules k l (omega arith) .words, ap (λ (b : Bool). choose b (childrenOf k + childrenOf k) (choose (leb k 3) (256 + childrenOf k) (childrenOf k))) (le-leb k 2 h))
 
-pub kind-3 : (kind : ℕ) → kind ≡ 3 → bodyWords kind ≡ 304
+pub kind-3 : (kind : ℕ) → kind ≡ 3 → bodyWords kind ≡ slotWords
 unfolding kindRow
 kind-3 kind e = ap bodyWords e
 
-pub kind-4 : (kind : ℕ) → kind ≡ 4 → bodyWords kind ≡ 256
+pub kind-4 : (kind : ℕ) → kind ≡ 4 → bodyWords kind ≡ byteValues
 unfolding kindRow
 kind-4 kind e = ap bodyWords e
+
+-- the last arm of a match on the kind is that of kinds 1 and 2
+pub kind-rest : {kind : ℕ} → kind ≤ 4 → (kind ≡ 3 → ⊥) → (kind ≡ 4 → ⊥) → kind ≤ 2
+kind-rest h three four = omega arith
 
 pub kind-words : (kind : ℕ) → 1 ≤ kind → kind ≤ 4 → (8 ≤ bodyWords kind) × (bodyWords kind ≤ 304)
 unfolding kindRow

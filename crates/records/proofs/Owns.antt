@@ -67,11 +67,11 @@ module _ {kind : ℕ} {body : List ℕ} {n : ℕ} (w : BodyFits kind body n) whe
       let q = both (allPass (atMost 48) (between body 0 256)) _ (p .0) in
       (w .long ∙ kind-3 kind e, record { low = q .0; names = p .1 }, eqb-true _ _ (q .1))
 
-  pub direct-fits : 2 < kind → (kind ≡ 3 → ⊥) → (length body ≡ 256) × (howMany nonzero body ≡ n)
+  pub direct-fits : kind ≡ 4 → (length body ≡ 256) × (howMany nonzero body ≡ n)
   unfolding bodyOk directOk
-  direct-fits h z =
-      let ok : directOk body n ≡ true = simp (lt-leb kind 2 h, ne-eqb kind 3 z) at (w .ok) in
-      (w .long ∙ kind-4 kind (omega (arith, w .high)), eqb-true _ _ ok)
+  direct-fits e =
+      let ok : directOk body n ≡ true = simp (lt-leb kind 2 (omega arith), ne-eqb kind 3 (λ z. omega arith)) at (w .ok) in
+      (w .long ∙ kind-4 kind e, eqb-true _ _ ok)
 
 pub record LeafRule (limit : ℕ) (rec key : List ℕ) : Type 0 where
   pub short : getD rec 1 0 ≤ limit

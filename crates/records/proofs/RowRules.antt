@@ -150,7 +150,7 @@ body-row {kind} {body} {n} w = go (leb kind 2) refl (eqb kind 3) refl
     go true e u i = let r = sorted-fits w (leb-true kind 2 e) in sorted-row (childrenOf kind) body n (r .0) (w .few) (r .1)
     go false e true i = let r = indirect-fits w (eqb-true kind 3 i) in indirect-row body n (r .0) (r .1) (r .2)
     go false e false i =
-        let r = direct-fits w (leb-false kind 2 e) (eqb-false kind 3 i) in
+        let r = direct-fits w (omega (arith, w .high, leb-false kind 2 e, eqb-false kind 3 i)) in
         filled-row n (direct-scanned body (r .0)) (r .1)
 
 pub row-rule : {form : Form} {kind : ℕ} {rec : List ℕ} → InnerFits form kind rec → RowRule (rowAt form kind rec) (childAt form kind rec) (getD rec 1 0)

@@ -27,13 +27,13 @@ fn body_ok(body: &[u32], kind: u32, n: usize) -> bool
     requires { ⌜ ((1 ≤ kind) × (kind ≤ 4)) × ((length (now body) ≡ bodyWords kind) × (n ≤ childrenOf kind)) ⌝ }
     ensures { λ r. ⌜ r ≡ bodyOk kind (now (body .entry)) n ⌝ }
 {
-    if kind <= 2 {
-        let row = kind::row_of(kind);
-        inner_node_sorted::sorted_ok(body, row.children as usize, n)
-    } else if kind == 3 {
-        inner_node_indirect::indirect_ok(body, n)
-    } else {
-        inner_node_direct::direct_ok(body, n)
+    match kind {
+        3 => inner_node_indirect::indirect_ok(body, n),
+        4 => inner_node_direct::direct_ok(body, n),
+        _ => {
+            let row = kind::row_of(kind);
+            inner_node_sorted::sorted_ok(body, row.children as usize, n)
+        }
     }
 }
 
@@ -60,13 +60,13 @@ fn body_child(body: &[u32], kind: u32, n: usize, byte: u8) -> u32
     requires { ⌜ ((1 ≤ kind) × (kind ≤ 4)) × ((length (now body) ≡ bodyWords kind) × (n ≤ childrenOf kind)) ⌝ }
     ensures { λ r. ⌜ r ≡ childOf kind (now (body .entry)) n byte ⌝ }
 {
-    if kind <= 2 {
-        let row = kind::row_of(kind);
-        inner_node_sorted::sorted_child(body, row.children as usize, n, byte as u32)
-    } else if kind == 3 {
-        inner_node_indirect::indirect_child(body, byte as usize)
-    } else {
-        body[byte as usize]
+    match kind {
+        3 => inner_node_indirect::indirect_child(body, byte as usize),
+        4 => body[byte as usize],
+        _ => {
+            let row = kind::row_of(kind);
+            inner_node_sorted::sorted_child(body, row.children as usize, n, byte as u32)
+        }
     }
 }
 
@@ -86,13 +86,13 @@ fn body_nth(body: &[u32], kind: u32, n: usize, i: usize) -> Entry
     requires { ⌜ BodyFits kind (now body) n ⌝ }
     ensures { λ r. ⌜ r ≡ entryAt i (bodyRow kind (now (body .entry)) n) ⌝ }
 {
-    if kind <= 2 {
-        let row = kind::row_of(kind);
-        inner_node_sorted::sorted_entry(body, row.children as usize, n, i)
-    } else if kind == 3 {
-        inner_node_indirect::indirect_nth(body, i)
-    } else {
-        inner_node_direct::direct_nth(body, i)
+    match kind {
+        3 => inner_node_indirect::indirect_nth(body, i),
+        4 => inner_node_direct::direct_nth(body, i),
+        _ => {
+            let row = kind::row_of(kind);
+            inner_node_sorted::sorted_entry(body, row.children as usize, n, i)
+        }
     }
 }
 
@@ -112,13 +112,13 @@ fn body_from(body: &[u32], kind: u32, n: usize, byte: usize) -> Entry
     requires { ⌜ (byte ≤ byteValues) × BodyFits kind (now body) n ⌝ }
     ensures { λ r. ⌜ r ≡ entryFrom byte (bodyRow kind (now (body .entry)) n) ⌝ }
 {
-    if kind <= 2 {
-        let row = kind::row_of(kind);
-        inner_node_sorted::sorted_from(body, row.children as usize, n, byte as u32)
-    } else if kind == 3 {
-        inner_node_indirect::indirect_from(body, byte)
-    } else {
-        inner_node_direct::direct_from(body, byte)
+    match kind {
+        3 => inner_node_indirect::indirect_from(body, byte),
+        4 => inner_node_direct::direct_from(body, byte),
+        _ => {
+            let row = kind::row_of(kind);
+            inner_node_sorted::sorted_from(body, row.children as usize, n, byte as u32)
+        }
     }
 }
 
@@ -138,13 +138,13 @@ fn body_last(body: &[u32], kind: u32, n: usize) -> Entry
     requires { ⌜ (1 ≤ n) × BodyFits kind (now body) n ⌝ }
     ensures { λ r. ⌜ r ≡ lastEntry (bodyRow kind (now (body .entry)) n) ⌝ }
 {
-    if kind <= 2 {
-        let row = kind::row_of(kind);
-        inner_node_sorted::sorted_entry(body, row.children as usize, n, n - 1)
-    } else if kind == 3 {
-        inner_node_indirect::indirect_last(body)
-    } else {
-        inner_node_direct::direct_last(body)
+    match kind {
+        3 => inner_node_indirect::indirect_last(body),
+        4 => inner_node_direct::direct_last(body),
+        _ => {
+            let row = kind::row_of(kind);
+            inner_node_sorted::sorted_entry(body, row.children as usize, n, n - 1)
+        }
     }
 }
 
