@@ -7,7 +7,7 @@ use mathlib.Core.Bool.{Bool, _&&_}
 use lib.ListN.{length, getD}
 use lib.Dec.{eqb, leb}
 use Rattle.lists.specs.Scan.{choose}
-use Rattle.frames.specs.Kind.{bodyWords}
+use Rattle.frames.specs.Kind.{bodyWords, leafSize}
 use Rattle.frames.specs.declared.form.Form.{Form}
 use Rattle.frames.specs.declared.form.Sizes.{Sizes}
 
@@ -37,7 +37,7 @@ recordWords form kind = header form + bodyWords kind
 
 -- by pool, leaves the fifth
 abbrev pub sizesOf : Form → Sizes
-sizesOf form = record { z1 = recordWords form 1; z2 = recordWords form 2; z3 = recordWords form 3; z4 = recordWords form 4; z5 = 6 }
+sizesOf form = record { z1 = recordWords form 1; z2 = recordWords form 2; z3 = recordWords form 3; z4 = recordWords form 4; z5 = leafSize }
 
 -- a record of any pool has 512 words or fewer
 pub record SmallSizes (z : Sizes) : Type 0 where

@@ -53,6 +53,11 @@ slotWords = byteValues + slotPlaces
 abbrev pub slotZero : ℕ
 slotZero = byteValues - 1
 
+-- ── leaves ──
+-- the words of a leaf
+abbrev pub leafSize : ℕ
+leafSize = 6
+
 -- ── the rules of the table ──
 -- the words after the head: kinds 1 and 2 two for each child, kind 3 a slot number for each byte and one for each child, kind 4 one for each child
 unfoldable pub layout : ℕ → ℕ → ℕ

@@ -6,6 +6,7 @@ use lib.ListN.{getD}
 use lib.Dec.{eqb, leb, ltb}
 use Rattle.lists.specs.Scan.{choose}
 use Rattle.lists.specs.Part.{between, splice}
+use Rattle.frames.specs.Kind.{leafSize}
 use Rattle.frames.specs.Form.{recordWords}
 use Rattle.frames.specs.declared.frame.Frame.{Frame}
 use Rattle.art.specs.Stores.{Place, leaf-place, inner-place}
@@ -31,7 +32,7 @@ startAt f (inner-place k n) = getD (f .starts) k 0 + n * getD (f .sizes) k 0
 
 -- how many words it has
 abbrev pub sizeAt : Frame → Place → ℕ
-sizeAt f (leaf-place n) = 6
+sizeAt f (leaf-place n) = leafSize
 sizeAt f (inner-place k n) = recordWords (f .form) k
 
 -- those words

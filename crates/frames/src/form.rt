@@ -60,7 +60,7 @@ fn body_of(row: kind::KindRow) -> usize
     row.words as usize - 11
 }
 
-// The words of a record by its pool; a leaf has 6.
+// The words of a record by its pool.
 pub struct Sizes {
     pub z1: usize,
     pub z2: usize,
@@ -82,6 +82,6 @@ pub fn sizes_of(form: Form) -> Sizes
         z2: z2,
         z3: z3,
         z4: z4,
-        z5: 6,
+        z5: kind::LEAF_WORDS,
     }
 }

@@ -45,6 +45,9 @@ pub const SLOTTED: usize = BYTES + SLOTS;
 // Where in that body a slot 0 would be: slot s is `SLOT_ZERO + s`.
 pub const SLOT_ZERO: usize = BYTES - 1;
 
+// The words of a leaf.
+pub const LEAF_WORDS: usize = 6;
+
 // The row of a kind.
 pub fn row_of(kind: u32) -> KindRow
     requires { ⌜ (1 ≤ kind) × (kind ≤ 4) ⌝ }

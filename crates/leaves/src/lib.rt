@@ -2,12 +2,14 @@
 ghost use mathlib.Core.Path.{_≡_};
 ghost use Prim.Native.Nat.{_≤_, _+_};
 ghost use lib.ListN.{length};
+ghost use Rattle.frames.specs.Kind.{leafSize};
 ghost use Rattle.frames.specs.Frame.{FrameOf};
 ghost use Rattle.lists.specs.Part.{between};
 ghost use Rattle.tree.specs.Answer.{factsHere};
 ghost use Rattle.leaves.specs.Leaf.{leafState, nextOf, nextLeafOf, factsOf, tagLen, tagOf};
 use frames::frame;
 use frames::frame::Frame;
+use frames::kind::LEAF_WORDS;
 use records::leaf_node;
 use tree::answer::Facts;
 use tree::answer::Found;
@@ -23,10 +25,10 @@ pub enum LeafState {
 
 // The six words of a leaf, by its first.
 fn leaf_words<'a>(words: &'a [u32], start: usize) -> &'a [u32]
-    requires { ⌜ start + 6 ≤ length (now words) ⌝ }
-    ensures { λ r. ⌜ (now r ≡ between (now (words .entry)) start (start + 6)) × (length (now r) ≡ 6) ⌝ }
+    requires { ⌜ start + leafSize ≤ length (now words) ⌝ }
+    ensures { λ r. ⌜ (now r ≡ between (now (words .entry)) start (start + leafSize)) × (length (now r) ≡ leafSize) ⌝ }
 {
-    let e = start + 6;
+    let e = start + LEAF_WORDS;
     &words[start..e]
 }
 
@@ -108,8 +110,8 @@ pub fn leaf_facts(words: &[u32], keys: &[u8], number: u32) -> Facts
 
 // A leaf's length and total as they stand.
 fn facts_at(words: &[u32], start: usize) -> Facts
-    requires { ⌜ start + 6 ≤ length (now words) ⌝ }
-    ensures { λ r. ⌜ r ≡ factsHere (between (now (words .entry)) start (start + 6)) ⌝ }
+    requires { ⌜ start + leafSize ≤ length (now words) ⌝ }
+    ensures { λ r. ⌜ r ≡ factsHere (between (now (words .entry)) start (start + leafSize)) ⌝ }
 {
     let rec = leaf_words(words, start);
     let len = leaf_node::tag_len(rec);

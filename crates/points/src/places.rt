@@ -3,6 +3,7 @@ ghost use mathlib.Core.Path.{_≡_};
 ghost use mathlib.Core.Bool.{true};
 ghost use Prim.Native.Nat.{_≤_, _+_, _*_, _%_};
 ghost use lib.ListN.{length};
+ghost use Rattle.frames.specs.Kind.{leafSize};
 ghost use Rattle.frames.specs.Frame.{FrameOf};
 ghost use Rattle.frames.specs.Place.{placeAt, inPool, recordAt};
 ghost use Rattle.records.specs.Words.{childCount};
@@ -12,6 +13,7 @@ ghost use Rattle.points.specs.There.{InnerHere};
 use frames::form;
 use frames::frame;
 use frames::frame::Frame;
+use frames::kind::LEAF_WORDS;
 use records::header;
 use records::leaf_node;
 
@@ -44,10 +46,10 @@ pub fn children_at(words: &[u32], keys: &[u8], f: Frame, reference: u32) -> u32
 // The words of a leaf, by its number.
 pub fn leaf_at<'a>(words: &'a [u32], keys: &[u8], f: Frame, n: u32) -> &'a [u32]
     requires { ⌜ FrameOf f (now words) (now keys) × (inPool f (leaf-place n) ≡ true) ⌝ }
-    ensures { λ r. ⌜ (now r ≡ recordAt f (now (words .entry)) (leaf-place n)) × (length (now r) ≡ 6) ⌝ }
+    ensures { λ r. ⌜ (now r ≡ recordAt f (now (words .entry)) (leaf-place n)) × (length (now r) ≡ leafSize) ⌝ }
 {
     let start = frame::start_at(f, reference_to(frame::LEAF, n as usize));
-    let e = start + 6;
+    let e = start + LEAF_WORDS;
     &words[start..e]
 }
 

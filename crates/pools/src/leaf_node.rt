@@ -2,6 +2,7 @@
 ghost use mathlib.Core.Path.{_≡_};
 ghost use Prim.Native.Nat.{_%_, _/_, _^_};
 ghost use lib.ListN.{length};
+ghost use Rattle.frames.specs.Kind.{leafSize};
 ghost use Rattle.pools.specs.Leaf.{leafWords, setTotal};
 use lists::edit;
 
@@ -21,7 +22,7 @@ fn high_half(total: u64) -> u32
 
 // A leaf in use: its tag's length, its neighbours, its total.
 pub fn write_leaf(rec: &mut [u32], len: u32, previous: u32, next: u32, total: u64)
-    requires { ⌜ length (now rec) ≡ 6 ⌝ }
+    requires { ⌜ length (now rec) ≡ leafSize ⌝ }
     ensures { λ _. ⌜ now (rec .exit) ≡ leafWords len previous next total ⌝ }
 {
     let leaf = [1, len, previous, next, low_half(total), high_half(total)];
@@ -30,7 +31,7 @@ pub fn write_leaf(rec: &mut [u32], len: u32, previous: u32, next: u32, total: u6
 
 // Another total.
 pub fn set_total(rec: &mut [u32], total: u64)
-    requires { ⌜ length (now rec) ≡ 6 ⌝ }
+    requires { ⌜ length (now rec) ≡ leafSize ⌝ }
     ensures { λ _. ⌜ now (rec .exit) ≡ setTotal total (now (rec .entry)) ⌝ }
 {
     rec[4] = low_half(total);

@@ -3,6 +3,7 @@
 ghost use mathlib.Core.Path.{_≡_};
 ghost use Prim.Native.Nat.{_≤_, _<_};
 ghost use lib.ListN.{length};
+ghost use Rattle.frames.specs.Kind.{leafSize};
 ghost use Rattle.frames.specs.Frame.{FrameOf};
 ghost use Rattle.pools.specs.Link.{LeafOrEnd, setTrailer, setLink, setNext, setPrevious};
 use frames::frame;
@@ -28,7 +29,7 @@ fn set_link(
     side: usize,
     value: u32,
 )
-    requires { ⌜ (FrameOf f (now words) (now keys) × LeafOrEnd f reference) × ((edge < 16) × (side < 6)) ⌝ }
+    requires { ⌜ (FrameOf f (now words) (now keys) × LeafOrEnd f reference) × ((edge < 16) × (side < leafSize)) ⌝ }
     ensures { λ _. ⌜ now (words .exit) ≡ setLink edge side f reference value (now (words .entry)) ⌝ }
 {
     if reference == 0 {

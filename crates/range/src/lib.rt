@@ -5,11 +5,13 @@ ghost use mathlib.Core.Bool.{true};
 ghost use Prim.Native.Nat.{_≤_, _+_, _*_};
 ghost use lib.ListN.{length};
 ghost use Rattle.lists.specs.Part.{between};
+ghost use Rattle.frames.specs.Kind.{leafSize};
 ghost use Rattle.frames.specs.Frame.{frameFits, FrameOf};
 ghost use Rattle.records.specs.Words.{tagLength};
 ghost use Rattle.range.specs.Range.{below, leafStep, stepOf, endedOf, afterFirst, walkOf, answer, afterOf};
 use frames::frame;
 use frames::frame::Frame;
+use frames::kind::LEAF_WORDS;
 use lists::compare;
 use records::leaf_node;
 use whole::check;
@@ -31,7 +33,7 @@ pub enum Step {
 
 // Whether a leaf's tag comes before the given bytes.
 fn tag_below(rec: &[u32], key: &[u8], tag: &[u8]) -> bool
-    requires { ⌜ (length (now rec) ≡ 6) × (tagLength (now rec) ≤ length (now key)) ⌝ }
+    requires { ⌜ (length (now rec) ≡ leafSize) × (tagLength (now rec) ≤ length (now key)) ⌝ }
     ensures { λ r. ⌜ r ≡ below (now (rec .entry)) (now (key .entry)) (now (tag .entry)) ⌝ }
 {
     let n = leaf_node::tag_len(rec);
@@ -40,7 +42,7 @@ fn tag_below(rec: &[u32], key: &[u8], tag: &[u8]) -> bool
 
 // The step at a leaf, by its words and its key bytes.
 fn leaf_step(rec: &[u32], key: &[u8], tag: &[u8], number: u32) -> Step
-    requires { ⌜ length (now rec) ≡ 6 ⌝ }
+    requires { ⌜ length (now rec) ≡ leafSize ⌝ }
     ensures { λ r. ⌜ r ≡ leafStep (now (rec .entry)) (now (key .entry)) (now (tag .entry)) number ⌝ }
 {
     if key.len() < leaf_node::tag_len(rec) {
@@ -54,10 +56,10 @@ fn leaf_step(rec: &[u32], key: &[u8], tag: &[u8], number: u32) -> Step
 
 // The same, by its number and first word.
 fn leaf_at(words: &[u32], keys: &[u8], limit: usize, tag: &[u8], number: u32, start: usize) -> Step
-    requires { ⌜ (start + 6 ≤ length (now words)) × (number * limit + limit ≤ length (now keys)) ⌝ }
-    ensures { λ r. ⌜ r ≡ leafStep (between (now (words .entry)) start (start + 6)) (between (now (keys .entry)) (number * limit) (number * limit + limit)) (now (tag .entry)) number ⌝ }
+    requires { ⌜ (start + leafSize ≤ length (now words)) × (number * limit + limit ≤ length (now keys)) ⌝ }
+    ensures { λ r. ⌜ r ≡ leafStep (between (now (words .entry)) start (start + leafSize)) (between (now (keys .entry)) (number * limit) (number * limit + limit)) (now (tag .entry)) number ⌝ }
 {
-    let e = start + 6;
+    let e = start + LEAF_WORDS;
     let a = number as usize * limit;
     let z = a + limit;
     leaf_step(&words[start..e], &keys[a..z], tag, number)

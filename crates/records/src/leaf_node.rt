@@ -2,6 +2,7 @@
 ghost use mathlib.Core.Path.{_≡_};
 ghost use Prim.Native.Nat.{_<_, _^_};
 ghost use lib.ListN.{length};
+ghost use Rattle.frames.specs.Kind.{leafSize};
 ghost use Rattle.records.specs.Words.{usedAs, tagLength, previousLeaf, nextLeaf};
 ghost use Rattle.records.specs.Own.{leafOk, totalOf};
 use frames::frame::num;
@@ -22,7 +23,7 @@ const HIGH: usize = 5;
 
 // Whether it is in use: 1, and 0 where it is free. In damaged words it may be any number.
 pub fn used_as(rec: &[u32]) -> u32
-    requires { ⌜ length (now rec) ≡ 6 ⌝ }
+    requires { ⌜ length (now rec) ≡ leafSize ⌝ }
     ensures { λ r. ⌜ r ≡ usedAs (now (rec .entry)) ⌝ }
 {
     rec[USED]
@@ -30,7 +31,7 @@ pub fn used_as(rec: &[u32]) -> u32
 
 // How many bytes its tag has.
 pub fn tag_len(rec: &[u32]) -> usize
-    requires { ⌜ length (now rec) ≡ 6 ⌝ }
+    requires { ⌜ length (now rec) ≡ leafSize ⌝ }
     ensures { λ r. ⌜ (r ≡ tagLength (now (rec .entry))) × (r < 2 ^ 32) ⌝ }
 {
     num(rec, LENGTH)
@@ -38,7 +39,7 @@ pub fn tag_len(rec: &[u32]) -> usize
 
 // The reference of the leaf before it, 0 for the first.
 pub fn previous(rec: &[u32]) -> u32
-    requires { ⌜ length (now rec) ≡ 6 ⌝ }
+    requires { ⌜ length (now rec) ≡ leafSize ⌝ }
     ensures { λ r. ⌜ r ≡ previousLeaf (now (rec .entry)) ⌝ }
 {
     rec[PREVIOUS]
@@ -46,7 +47,7 @@ pub fn previous(rec: &[u32]) -> u32
 
 // The reference of the leaf after it, 0 for the last.
 pub fn next(rec: &[u32]) -> u32
-    requires { ⌜ length (now rec) ≡ 6 ⌝ }
+    requires { ⌜ length (now rec) ≡ leafSize ⌝ }
     ensures { λ r. ⌜ r ≡ nextLeaf (now (rec .entry)) ⌝ }
 {
     rec[NEXT]
@@ -54,7 +55,7 @@ pub fn next(rec: &[u32]) -> u32
 
 // A leaf's own rule, with its key bytes, as many as the form's limit.
 pub fn leaf_ok(limit: usize, rec: &[u32], key: &[u8]) -> bool
-    requires { ⌜ (length (now rec) ≡ 6) × (length (now key) ≡ limit) ⌝ }
+    requires { ⌜ (length (now rec) ≡ leafSize) × (length (now key) ≡ limit) ⌝ }
     ensures { λ r. ⌜ r ≡ leafOk limit (now (rec .entry)) (now (key .entry)) ⌝ }
 {
     let n = tag_len(rec);
@@ -68,7 +69,7 @@ pub fn leaf_ok(limit: usize, rec: &[u32], key: &[u8]) -> bool
 
 // The total, from its low and high half.
 pub fn total_of(rec: &[u32]) -> u64
-    requires { ⌜ length (now rec) ≡ 6 ⌝ }
+    requires { ⌜ length (now rec) ≡ leafSize ⌝ }
     ensures { λ r. ⌜ r ≡ totalOf (now (rec .entry)) ⌝ }
 {
     let low = num(rec, LOW);

@@ -7,6 +7,7 @@ use lib.ListN.{length}
 use lib.Dec.{eqb, ltb}
 use Rattle.lists.specs.Scan.{choose}
 use Rattle.lists.specs.Part.{between}
+use Rattle.frames.specs.Kind.{leafSize}
 use Rattle.frames.specs.Form.{recordWords}
 use Rattle.frames.specs.Frame.{frameFits, frame, rootWord}
 use Rattle.records.specs.Own.{leafOk, InnerFits}
@@ -36,15 +37,15 @@ arrivalAt f words keys left x = choose (inPool f x && (ruleAt f words keys x && 
 
 -- a leaf's record and key bytes that obey its rule
 pub record LeafFits (limit : ℕ) (rec key : List ℕ) : Type 0 where
-  pub long : length rec ≡ 6
+  pub long : length rec ≡ leafSize
   pub wide : length key ≡ limit
   pub ok : leafOk limit rec key ≡ true
 
 -- leaf n, whose words from start on and key bytes lie within the slices and obey its rule
 pub record LeafThere (limit : ℕ) (words keys : List ℕ) (n start : ℕ) : Type 0 where
-  pub room : start + 6 ≤ length words
+  pub room : start + leafSize ≤ length words
   pub bytes : n * limit + limit ≤ length keys
-  pub fits : LeafFits limit (between words start (start + 6)) (between keys (n * limit) (n * limit + limit))
+  pub fits : LeafFits limit (between words start (start + leafSize)) (between keys (n * limit) (n * limit + limit))
 
 -- an inner record of the kind, whose words from start on lie within the slice and obey its rule
 pub record InnerThere (form : Form) (words : List ℕ) (kind start : ℕ) : Type 0 where

@@ -12,6 +12,7 @@ use Rattle.prefix.specs.declared.lookup.PrefixMatchBehavior.{PrefixMatchBehavio
 use Rattle.prefix.specs.declared.lookup.PrefixMatchBehavior.the-variants.{Pessimistic, Optimistic}
 use Rattle.prefix.specs.declared.lookup.PrefixMatch.{PrefixMatch}
 use Rattle.prefix.specs.declared.lookup.PrefixMatch.the-variants.{On, Off}
+use Rattle.frames.specs.Kind.{leafSize}
 use Rattle.frames.specs.Form.{recordWords}
 use Rattle.records.specs.Words.{tagLength}
 use Rattle.records.specs.Own.{prefixAt, childAt}
@@ -69,7 +70,7 @@ innerStep form kind rec tag depth behavior = afterMatch form kind rec tag (match
 -- at a leaf, at an inner record, or where the way is broken
 abbrev pub stepFrom : Frame → List ℕ → List ℕ → List ℕ → Aim → ℕ → PrefixMatchBehavior → Arrival → Step
 stepFrom f words keys tag aim depth behavior (Leaf n start) =
-    Final (leafAnswer (between words start (start + 6)) (between keys (n * f .form .limit) (n * f .form .limit + f .form .limit)) tag aim n depth behavior)
+    Final (leafAnswer (between words start (start + leafSize)) (between keys (n * f .form .limit) (n * f .form .limit + f .form .limit)) tag aim n depth behavior)
 stepFrom f words keys tag aim depth behavior (Inner kind start) =
     innerStep (f .form) kind (between words start (start + recordWords (f .form) kind)) tag depth behavior
 stepFrom f words keys tag aim depth behavior Broken = Final Damaged

@@ -3,6 +3,7 @@ ghost use mathlib.Core.Path.{_≡_};
 ghost use Prim.Native.Nat.{_≤_, _+_, _*_, min};
 ghost use lib.ListN.{length};
 ghost use Rattle.lists.specs.Part.{between};
+ghost use Rattle.frames.specs.Kind.{leafSize};
 ghost use Rattle.frames.specs.Form.{recordWords};
 ghost use Rattle.frames.specs.Frame.{FrameOf};
 ghost use Rattle.records.specs.Own.{InnerFits};
@@ -15,6 +16,7 @@ use frames::form;
 use frames::form::Form;
 use frames::frame;
 use frames::frame::Frame;
+use frames::kind::LEAF_WORDS;
 use lists::compare;
 use prefix::lookup;
 use prefix::lookup::PrefixMatch;
@@ -122,9 +124,9 @@ fn leaf_at(
     behavior: PrefixMatchBehavior,
 ) -> Found
     requires { ⌜ LeafThere limit (now words) (now keys) number start ⌝ }
-    ensures { λ r. ⌜ r ≡ leafAnswer (between (now (words .entry)) start (start + 6)) (between (now (keys .entry)) (number * limit) (number * limit + limit)) (now (tag .entry)) aim number depth behavior ⌝ }
+    ensures { λ r. ⌜ r ≡ leafAnswer (between (now (words .entry)) start (start + leafSize)) (between (now (keys .entry)) (number * limit) (number * limit + limit)) (now (tag .entry)) aim number depth behavior ⌝ }
 {
-    let e = start + 6;
+    let e = start + LEAF_WORDS;
     let a = number as usize * limit;
     let z = a + limit;
     at_leaf(

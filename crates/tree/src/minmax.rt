@@ -3,6 +3,7 @@ ghost use mathlib.Core.Path.{_≡_};
 ghost use Prim.Native.Nat.{_≤_, _+_};
 ghost use lib.ListN.{length};
 ghost use Rattle.lists.specs.Part.{between};
+ghost use Rattle.frames.specs.Kind.{leafSize};
 ghost use Rattle.frames.specs.Form.{recordWords};
 ghost use Rattle.frames.specs.Frame.{FrameOf};
 ghost use Rattle.records.specs.Own.{InnerFits};
@@ -17,6 +18,7 @@ use frames::form;
 use frames::form::Form;
 use frames::frame;
 use frames::frame::Frame;
+use frames::kind::LEAF_WORDS;
 use records::leaf_node;
 use records::representation;
 use records::representation::Entry;
@@ -59,10 +61,10 @@ fn edge_child(words: &[u32], form: Form, kind: u32, start: usize, edge: Edge) ->
 
 // A leaf as it stands.
 pub fn leaf_found(words: &[u32], number: u32, start: usize) -> Found
-    requires { ⌜ start + 6 ≤ length (now words) ⌝ }
-    ensures { λ r. ⌜ r ≡ leafFound number (between (now (words .entry)) start (start + 6)) ⌝ }
+    requires { ⌜ start + leafSize ≤ length (now words) ⌝ }
+    ensures { λ r. ⌜ r ≡ leafFound number (between (now (words .entry)) start (start + leafSize)) ⌝ }
 {
-    let e = start + 6;
+    let e = start + LEAF_WORDS;
     Found::Leaf(number, leaf_node::total_of(&words[start..e]))
 }
 

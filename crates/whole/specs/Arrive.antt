@@ -3,6 +3,7 @@ use Prim.Native.Nat.{ℕ, _+_, _≤_}
 use mathlib.Core.List.{List}
 use lib.ListN.{length}
 use Rattle.lists.specs.Part.{between}
+use Rattle.frames.specs.Kind.{leafSize}
 use Rattle.frames.specs.Form.{recordWords}
 use Rattle.frames.specs.declared.form.Form.{Form}
 use Rattle.frames.specs.declared.frame.Frame.{Frame}
@@ -16,6 +17,6 @@ innerRec form words kind start = between words start (start + recordWords form k
 
 -- what was arrived at lies within the words, and an inner record obeys its rule
 abbrev pub There : Frame → List ℕ → Arrival → Type 0
-There f words (Leaf n start) = start + 6 ≤ length words
+There f words (Leaf n start) = start + leafSize ≤ length words
 There f words (Inner kind start) = InnerThere (f .form) words kind start
 There f words Broken = Unit {0}

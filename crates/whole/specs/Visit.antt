@@ -5,6 +5,7 @@ use mathlib.Core.Bool.{_&&_}
 use lib.Dec.{eqb, leb}
 use Rattle.lists.specs.Scan.{choose, howMany, nonzero}
 use Rattle.lists.specs.Part.{between}
+use Rattle.frames.specs.Kind.{leafSize}
 use Rattle.frames.specs.Frame.{FrameOf}
 use Rattle.frames.specs.Place.{placeAt}
 use Rattle.frames.specs.declared.frame.Frame.{Frame}
@@ -41,7 +42,7 @@ leafVisit rec ref s =
 
 -- what is to be done at a record: a leaf is seen, an inner record's row branches past its run
 abbrev pub turnOf : Frame → List ℕ → ℕ → ℕ → Seen → Arrival → Turn
-turnOf f words ref depth s (Leaf n start) = Done (leafVisit (between words start (start + 6)) ref s)
+turnOf f words ref depth s (Leaf n start) = Done (leafVisit (between words start (start + leafSize)) ref s)
 turnOf f words ref depth s (Inner kind start) = Branch (record { kind = kind; start = start; depth = depth + fullLength (innerRec (f .form) words kind start) })
 turnOf f words ref depth s Broken = Done Ill
 

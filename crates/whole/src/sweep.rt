@@ -10,6 +10,7 @@ use super::marks;
 use frames::form;
 use frames::frame;
 use frames::frame::Frame;
+use frames::kind::LEAF_WORDS;
 use lists::scan;
 
 // All words of a record, and a leaf's key bytes, are 0.
@@ -21,7 +22,7 @@ fn blank_at(words: &[u32], keys: &[u8], f: Frame, reference: u32) -> bool
     if reference % 8 == frame::LEAF {
         let a = (reference / 8) as usize * f.form.limit as usize;
         let e = a + f.form.limit as usize;
-        let z = start + 6;
+        let z = start + LEAF_WORDS;
         let bytes = scan::bytes_zero(&keys[a..e]);
         return scan::all_at_most(&words[start..z], 0) & bytes;
     }

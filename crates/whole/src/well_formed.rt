@@ -4,6 +4,7 @@ ghost use mathlib.Core.Path.{_≡_};
 ghost use Prim.Native.Nat.{_≤_, _<_, _+_, _^_};
 ghost use lib.ListN.{length};
 ghost use Rattle.lists.specs.Part.{between};
+ghost use Rattle.frames.specs.Kind.{leafSize};
 ghost use Rattle.frames.specs.Frame.{FrameOf};
 ghost use Rattle.records.specs.Words.{fullLength};
 ghost use Rattle.records.specs.Row.{entryFrom, rowAt};
@@ -17,6 +18,7 @@ use super::witness;
 use frames::form;
 use frames::form::Form;
 use frames::frame::Frame;
+use frames::kind::LEAF_WORDS;
 use records::header;
 use records::leaf_node;
 use records::representation;
@@ -52,10 +54,10 @@ pub enum Turn {
 
 // A leaf comes after the leaf seen last, both ways.
 fn leaf_visit(words: &[u32], start: usize, reference: u32, s: Seen) -> Visit
-    requires { ⌜ (start + 6 ≤ length (now words)) × (s .count + 1 < 2 ^ 64) ⌝ }
-    ensures { λ r. ⌜ r ≡ leafVisit (between (now (words .entry)) start (start + 6)) reference s ⌝ }
+    requires { ⌜ (start + leafSize ≤ length (now words)) × (s .count + 1 < 2 ^ 64) ⌝ }
+    ensures { λ r. ⌜ r ≡ leafVisit (between (now (words .entry)) start (start + leafSize)) reference s ⌝ }
 {
-    let e = start + 6;
+    let e = start + LEAF_WORDS;
     let rec = &words[start..e];
     let prev = leaf_node::previous(rec);
     let next = leaf_node::next(rec);

@@ -10,6 +10,7 @@ ghost use Rattle.whole.specs.Witness.{LeafSeen, tagAt, lengthAt, goesOn,
 use frames::form;
 use frames::frame;
 use frames::frame::Frame;
+use frames::kind::LEAF_WORDS;
 use lists::compare;
 use prefix::Prefix;
 use records::header;
@@ -21,7 +22,7 @@ fn tag_len(words: &[u32], keys: &[u8], f: Frame, leaf: u32) -> usize
     ensures { λ r. ⌜ (r ≡ lengthAt f (now (words .entry)) leaf) × (r ≤ f .form .limit) ⌝ }
 {
     let start = frame::start_at(f, leaf);
-    let e = start + 6;
+    let e = start + LEAF_WORDS;
     leaf_node::tag_len(&words[start..e])
 }
 

@@ -2,6 +2,7 @@
 use Prim.Native.Nat.{ℕ}
 use mathlib.Core.List.{List}
 use lib.ListN.{replicate}
+use Rattle.frames.specs.Kind.{leafSize}
 use Rattle.frames.specs.Place.{recordAt, putAt, putKey}
 use Rattle.frames.specs.declared.frame.Frame.{Frame}
 use Rattle.art.specs.Stores.{leaf-place}
@@ -21,7 +22,7 @@ keyIn f n tag keys = putKey f keys n (padded (f .form .limit) tag)
 
 -- leaf n taken out from between its neighbours, and cleared
 unfoldable pub leafOut : Frame → (n previous next : ℕ) → List ℕ → List ℕ
-leafOut f n previous next words = putAt f (setPrevious f next previous (setNext f previous next words)) (leaf-place n) (replicate 6 0)
+leafOut f n previous next words = putAt f (setPrevious f next previous (setNext f previous next words)) (leaf-place n) (replicate leafSize 0)
 
 -- its key bytes, all 0
 unfoldable pub keyOut : Frame → ℕ → List ℕ → List ℕ

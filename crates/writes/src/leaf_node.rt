@@ -3,6 +3,7 @@ ghost use mathlib.Core.Path.{_≡_};
 ghost use mathlib.Core.Bool.{true};
 ghost use Prim.Native.Nat.{_≤_, _+_, _*_};
 ghost use lib.ListN.{length, replicate};
+ghost use Rattle.frames.specs.Kind.{leafSize};
 ghost use Rattle.frames.specs.Frame.{FrameOf};
 ghost use Rattle.frames.specs.Place.{inPool, startAt, putAt};
 ghost use Rattle.art.specs.Stores.{leaf-place};
@@ -11,6 +12,7 @@ ghost use Rattle.pools.specs.Link.{LeafOrEnd};
 ghost use Rattle.writes.specs.Leaf.{leafIn, keyIn, leafOut, keyOut, totalAt};
 use frames::frame;
 use frames::frame::Frame;
+use frames::kind::LEAF_WORDS;
 use lists::edit;
 use pools::leaf_node;
 use pools::links;
@@ -24,7 +26,7 @@ pub struct Gap {
 // The first word of leaf `n`.
 fn leaf_start(words: &[u32], keys: &[u8], f: Frame, n: u32) -> usize
     requires { ⌜ FrameOf f (now words) (now keys) × (inPool f (leaf-place n) ≡ true) ⌝ }
-    ensures { λ r. ⌜ (r ≡ startAt f (leaf-place n)) × (r + 6 ≤ length (now (words .entry))) ⌝ }
+    ensures { λ r. ⌜ (r ≡ startAt f (leaf-place n)) × (r + leafSize ≤ length (now (words .entry))) ⌝ }
 {
     frame::start_at(f, n * 8 + frame::LEAF)
 }
@@ -43,7 +45,7 @@ fn write_at(words: &mut [u32], keys: &[u8], f: Frame, n: u32, len: u32, gap: Gap
     ensures { λ _. ⌜ now (words .exit) ≡ putAt f (now (words .entry)) (leaf-place n) (leafWords len (gap .previous) (gap .next) total) ⌝ }
 {
     let start = leaf_start(words, keys, f, n);
-    let end = start + 6;
+    let end = start + LEAF_WORDS;
     leaf_node::write_leaf(&mut words[start..end], len, gap.previous, gap.next, total);
 }
 
@@ -80,10 +82,10 @@ pub fn leaf_in(
 // The words of leaf `n` all 0.
 fn clear_at(words: &mut [u32], keys: &[u8], f: Frame, n: u32)
     requires { ⌜ FrameOf f (now words) (now keys) × (inPool f (leaf-place n) ≡ true) ⌝ }
-    ensures { λ _. ⌜ now (words .exit) ≡ putAt f (now (words .entry)) (leaf-place n) (replicate 6 0) ⌝ }
+    ensures { λ _. ⌜ now (words .exit) ≡ putAt f (now (words .entry)) (leaf-place n) (replicate leafSize 0) ⌝ }
 {
     let start = leaf_start(words, keys, f, n);
-    let end = start + 6;
+    let end = start + LEAF_WORDS;
     edit::clear(&mut words[start..end]);
 }
 
@@ -114,6 +116,6 @@ pub fn set_total_at(words: &mut [u32], keys: &[u8], f: Frame, n: u32, total: u64
     ensures { λ _. ⌜ now (words .exit) ≡ totalAt f n total (now (words .entry)) ⌝ }
 {
     let start = leaf_start(words, keys, f, n);
-    let end = start + 6;
+    let end = start + LEAF_WORDS;
     leaf_node::set_total(&mut words[start..end], total);
 }
