@@ -10,7 +10,7 @@ use lib.ListN.{length, take, length-append}
 use lib.Dec.{leb, ltb}
 use borrow.Author.Tests.{le-leb, lt-ltb, ltb-true}
 use Rattle.lists.proofs.Tests.{both, and-both}
-use Rattle.frames.specs.Place.{inPool}
+use Rattle.frames.specs.Place.{inPool, numberAt}
 use Rattle.frames.specs.declared.frame.Frame.{Frame}
 use Rattle.frames.proofs.Places.{inner-kind}
 use Rattle.records.specs.View.{Held}
@@ -26,7 +26,6 @@ use Rattle.art.proofs.Members.{in-left, in-right}
 use Rattle.art.proofs.Refs.{count-refs}
 use Rattle.art.proofs.Passes.{store-on}
 use Rattle.art.proofs.Stores.{leaf-inner}
-use Rattle.view.specs.Cells.{numberAt}
 use Rattle.states.specs.State.{State}
 use Rattle.states.proofs.OneCell.{used-pool}
 use Rattle.insert.specs.Room.{LeavesFull}

@@ -76,7 +76,7 @@ fn shrink_cut(words: &[u32], keys: &[u8], f: Frame, upper: Up, reference: u32, b
     let i = k as usize;
     let n = lowest_free(words, keys, f, i);
     if n < caps[i] {
-        return Cut::Shrink(upper, reference, places::reference_to(k, n), byte);
+        return Cut::Shrink(upper, reference, frame::reference_to(k, n), byte);
     }
     Cut::Stay(reference, byte)
 }

@@ -10,7 +10,7 @@ use lib.ListN.{length, getD, take}
 use lib.Dec.{leb, ltb}
 use borrow.Author.Tests.{ltb-true}
 use Rattle.lists.proofs.Tests.{both}
-use Rattle.frames.specs.Place.{inPool}
+use Rattle.frames.specs.Place.{inPool, kindAt, numberAt}
 use Rattle.frames.specs.declared.frame.Frame.{Frame}
 use Rattle.records.specs.View.{Held}
 use Rattle.art.specs.Tags.{Tag}
@@ -19,7 +19,6 @@ use Rattle.art.specs.Stores.{Place, leaf-place, inner-place, place-dec, Cell, u
 use Rattle.art.specs.Visit.{spots, row-spots}
 use Rattle.art.specs.Members.{In}
 use Rattle.art.proofs.Members.{in-left, in-right}
-use Rattle.view.specs.Cells.{kindAt, numberAt}
 
 module _ (w : Cell Held → ℕ) where
   -- of the cells with a number below m

@@ -111,6 +111,9 @@ place-leaf n =
     let m : (n * 8 + 5) / 8 ≡ n = omega arith in
     ap (λ (b : Bool). choose b (leaf-place ((n * 8 + 5) / 8)) (inner-place ((n * 8 + 5) % 8) ((n * 8 + 5) / 8))) (eq-eqb _ _ k) ∙ ap leaf-place m
 
+pub ref-leaf : {ref n : ℕ} → ref ≡ n * 8 + 5 → placeAt ref ≡ leaf-place n
+ref-leaf {n = n} e = ap placeAt e ∙ place-leaf n
+
 pub place-inner : (k n : ℕ) → k ≤ 4 → placeAt (n * 8 + k) ≡ inner-place k n
 place-inner k n h =
     let r = n * 8 + k in

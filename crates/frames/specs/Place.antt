@@ -20,6 +20,16 @@ abbrev pub refOf : Place → ℕ
 refOf (leaf-place n) = n * 8 + 5
 refOf (inner-place k n) = n * 8 + k
 
+-- a place's pool, leaves being kind 5
+abbrev pub kindAt : Place → ℕ
+kindAt (leaf-place n) = 5
+kindAt (inner-place k n) = k
+
+-- its number there
+abbrev pub numberAt : Place → ℕ
+numberAt (leaf-place n) = n
+numberAt (inner-place k n) = n
+
 -- a pool has the place
 abbrev pub inPool : Frame → Place → Bool
 inPool f (leaf-place n) = ltb n (getD (f .caps) 5 0)

@@ -1,7 +1,7 @@
 // The frame: what the trailer says of the pools, tested against the slices' lengths, and the places that references name.
 ghost use mathlib.Core.Path.{_≡_};
 ghost use mathlib.Core.Bool.{true};
-ghost use Prim.Native.Nat.{_≤_, _<_, _*_, _^_};
+ghost use Prim.Native.Nat.{_≤_, _<_, _+_, _*_, _^_};
 ghost use lib.ListN.{length, getD};
 ghost use Rattle.frames.specs.Form.{formKnown, sizesOf, SmallSizes};
 ghost use Rattle.frames.specs.Frame.{capsOf, capsSmall, SmallCaps, backsOf, backsMatch, formFits, trailerFits, trailerOf, frameFits, frameWith, frameOf, Framed, FrameOf};
@@ -215,6 +215,14 @@ pub fn trailer_word(words: &[u32], i: usize) -> u32
 {
     let n = words.len();
     words[n - 16 + i]
+}
+
+// The reference to a record of a pool, by its kind and number.
+pub fn reference_to(kind: u32, number: usize) -> u32
+    requires { ⌜ (kind ≤ 5) × (number ≤ 4096) ⌝ }
+    ensures { λ r. ⌜ r ≡ number * 8 + kind ⌝ }
+{
+    number as u32 * 8 + kind
 }
 
 // Whether the reference names a record of a pool.

@@ -70,7 +70,7 @@ fn into_choice(words: &[u32], keys: &[u8], f: Frame, up: Up, reference: u32, byt
     let Free::At(k, n) = free else {
         return Choice::Nowhere;
     };
-    Choice::At(Site::Grow(up, reference, places::reference_to(k, n), byte))
+    Choice::At(Site::Grow(up, reference, frame::reference_to(k, n), byte))
 }
 
 // A branching over a record or leaf.
@@ -91,7 +91,7 @@ fn fork_choice(
     let Free::At(k, n) = free else {
         return Choice::Nowhere;
     };
-    Choice::At(Site::Fork(up, reference, places::reference_to(k, n), leaf, d, c))
+    Choice::At(Site::Fork(up, reference, frame::reference_to(k, n), leaf, d, c))
 }
 
 // The place in the list before a leaf.

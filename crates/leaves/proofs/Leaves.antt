@@ -16,7 +16,7 @@ use Rattle.records.specs.Words.{usedAs, tagLength}
 use Rattle.records.specs.View.{ruleAt}
 use Rattle.frames.specs.declared.frame.Frame.{Frame}
 use Rattle.records.proofs.Owns.{leaf-rule}
-use Rattle.frames.proofs.Places.{place-leaf}
+use Rattle.frames.proofs.Places.{ref-leaf}
 use Rattle.art.specs.Stores.{Place, leaf-place, inner-place}
 use Rattle.tree.specs.Answer.{leafFound}
 use Rattle.tree.specs.Arrive.{LeafThere}
@@ -28,8 +28,8 @@ use Rattle.leaves.specs.declared.LeafState.the-variants.{Good, Broken, N
 use Rattle.tree.proofs.Arrivals.{leaf-stands, frame-in}
 
 -- ── the reference of a leaf number of the pool ──
-pub ref-pooled : (f : Frame) (n : ℕ) → n < getD (f .caps) 5 0 → inPool f (placeAt (n * 8 + 5)) ≡ true
-ref-pooled f n h = ap (inPool f) (place-leaf n) ∙ lt-ltb n (getD (f .caps) 5 0) h
+pub ref-pooled : (f : Frame) {n ref : ℕ} → ref ≡ n * 8 + 5 → n < getD (f .caps) 5 0 → inPool f (placeAt ref) ≡ true
+ref-pooled f {n} r h = ap (inPool f) (ref-leaf r) ∙ lt-ltb n (getD (f .caps) 5 0) h
 
 -- ── what stands at a leaf number ──
 module _ (f : Frame) (words keys : List ℕ) (n : ℕ) where
@@ -38,9 +38,9 @@ module _ (f : Frame) (words keys : List ℕ) (n : ℕ) where
   state-outside p = simp p
 
   -- by a number of the pool, the first word of its reference's place, and what the leaf there is used as
-  module _ (h : n < getD (f .caps) 5 0) (start : ℕ) (s : start ≡ startAt f (placeAt (n * 8 + 5))) {u : ℕ} (e : u ≡ usedAs (between words start (start + 6))) where
+  module _ {ref : ℕ} (r : ref ≡ n * 8 + 5) (h : n < getD (f .caps) 5 0) (start : ℕ) (s : start ≡ startAt f (placeAt ref)) {u : ℕ} (e : u ≡ usedAs (between words start (start + 6))) where
     begins : start ≡ startAt f (leaf-place n)
-    begins = s ∙ ap (startAt f) (place-leaf n)
+    begins = s ∙ ap (startAt f) (ref-leaf r)
 
     head : usedAs (recordAt f words (leaf-place n)) ≡ u
     head = ap (λ (a : ℕ). usedAs (between words a (a + 6))) (sym begins) ∙ sym e
@@ -53,18 +53,18 @@ module _ (f : Frame) (words keys : List ℕ) (n : ℕ) where
       used : eqb (usedAs (recordAt f words (leaf-place n))) 0 ≡ false
       used = ne-eqb _ _ (λ e. z (sym head ∙ e))
 
-      ruled : (r : Bool) → ruleAt f words keys (placeAt (n * 8 + 5)) ≡ r → choose r (Good start) Broken ≡ leafState f words keys n
+      ruled : (b : Bool) → ruleAt f words keys (placeAt ref) ≡ b → choose b (Good start) Broken ≡ leafState f words keys n
       unfolding leafState
-      ruled r e =
-          ap (λ (a : ℕ). choose r (Good a) Broken) begins
-          ∙ ap (λ (b : Bool). choose b (Good (startAt f (leaf-place n))) Broken) (sym e ∙ ap (ruleAt f words keys) (place-leaf n))
+      ruled b t =
+          ap (λ (a : ℕ). choose b (Good a) Broken) begins
+          ∙ ap (λ (b : Bool). choose b (Good (startAt f (leaf-place n))) Broken) (sym t ∙ ap (ruleAt f words keys) (ref-leaf r))
           ∙ simp (lt-ltb n (getD (f .caps) 5 0) h, used)
 
-      pub state-broken : ruleAt f words keys (placeAt (n * 8 + 5)) ≡ false → Broken ≡ leafState f words keys n
-      state-broken r = ruled false r
+      pub state-broken : ruleAt f words keys (placeAt ref) ≡ false → Broken ≡ leafState f words keys n
+      state-broken t = ruled false t
 
-      pub state-good : ruleAt f words keys (placeAt (n * 8 + 5)) ≡ true → Good start ≡ leafState f words keys n
-      state-good r = ruled true r
+      pub state-good : ruleAt f words keys (placeAt ref) ≡ true → Good start ≡ leafState f words keys n
+      state-good t = ruled true t
 
 -- a good leaf's first word, and the leaf there
 pub record GoodLeaf (f : Frame) (words keys : List ℕ) (n start : ℕ) : Type 0 where

@@ -41,7 +41,7 @@ fn leaf_state(words: &[u32], keys: &[u8], f: Frame, number: u32) -> LeafState
     if caps[frame::LEAVES] <= number as usize {
         return LeafState::NoLeaf;
     }
-    let reference = number * 8 + frame::LEAF;
+    let reference = frame::reference_to(frame::LEAF, number as usize);
     let start = frame::start_at(f, reference);
     if leaf_node::used_as(leaf_words(words, start)) == 0 {
         return LeafState::NoLeaf;

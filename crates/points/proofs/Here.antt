@@ -11,13 +11,12 @@ use Rattle.lists.specs.Scan.{choose}
 use Rattle.lists.specs.Part.{between}
 use Rattle.frames.specs.Form.{recordWords}
 use Rattle.frames.specs.Frame.{FrameOf}
-use Rattle.frames.specs.Place.{placeAt, inPool, startAt, sizeAt, recordAt}
+use Rattle.frames.specs.Place.{placeAt, inPool, startAt, sizeAt, recordAt, kindAt}
 use Rattle.frames.specs.declared.frame.Frame.{Frame}
 use Rattle.frames.proofs.Frames.{framed, caps-most}
-use Rattle.frames.proofs.Places.{place-leaf, place-room}
+use Rattle.frames.proofs.Places.{ref-leaf, place-room}
 use Rattle.records.specs.Own.{InnerFits}
 use Rattle.art.specs.Stores.{leaf-place, inner-place}
-use Rattle.view.specs.Cells.{kindAt}
 use Rattle.tree.proofs.Arrivals.{inner-named}
 use Rattle.points.specs.There.{InnerHere}
 
@@ -56,7 +55,7 @@ module _ {f : Frame} {words keys : List ℕ} (w : FrameOf f words keys) (n : ℕ
 
   module _ {ref : ℕ} (e : ref ≡ n * 8 + 5) where
     pub leaf-names : placeAt ref ≡ leaf-place n
-    leaf-names = ap placeAt e ∙ place-leaf n
+    leaf-names = ref-leaf e
 
     pub leaf-there : inPool f (placeAt ref) ≡ true
     leaf-there = ap (inPool f) leaf-names ∙ p

@@ -13,12 +13,11 @@ use Rattle.lists.specs.Part.{between}
 use Rattle.lists.proofs.Tests.{both}
 use Rattle.frames.specs.Form.{recordWords}
 use Rattle.frames.specs.Frame.{FrameOf}
-use Rattle.frames.specs.Place.{placeAt, inPool, startAt, recordAt}
+use Rattle.frames.specs.Place.{placeAt, inPool, startAt, recordAt, kindAt}
 use Rattle.frames.specs.declared.frame.Frame.{Frame}
 use Rattle.records.specs.Own.{prefixAt, childAt, InnerFits}
 use Rattle.records.specs.View.{ruleAt}
 use Rattle.art.specs.Stores.{Place, leaf-place, inner-place}
-use Rattle.view.specs.Cells.{kindAt}
 use Rattle.tree.specs.Arrive.{onPath, arrived, arrivalAt}
 use Rattle.tree.specs.declared.answer.Found.{Found}
 use Rattle.tree.specs.declared.answer.Found.the-variants as found

@@ -4,11 +4,10 @@ use mathlib.Core.Path.{_≡_}
 use mathlib.Core.List.{List}
 use mathlib.Core.Bool.{true}
 use lib.ListN.{length}
-use Rattle.frames.specs.Place.{placeAt, inPool, recordAt}
+use Rattle.frames.specs.Place.{placeAt, inPool, recordAt, kindAt}
 use Rattle.frames.specs.declared.frame.Frame.{Frame}
 use Rattle.records.specs.Own.{childAt, InnerFits}
 use Rattle.art.specs.Stores.{Place}
-use Rattle.view.specs.Cells.{kindAt}
 use Rattle.whole.specs.Witness.{LeafSeen}
 use Rattle.points.specs.declared.insert_point.Up.{Up}
 use Rattle.points.specs.declared.insert_point.Up.the-variants.{Top, Via}

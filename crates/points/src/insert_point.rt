@@ -59,7 +59,7 @@ fn lowest_leaf(words: &[u32], keys: &[u8], f: Frame, reference: u32) -> u32
 {
     let low = minmax::edge_walk(words, keys, f, Edge::Low, reference);
     match low {
-        Found::Leaf(number, _) => number * 8 + frame::LEAF,
+        Found::Leaf(number, _) => frame::reference_to(frame::LEAF, number as usize),
         Found::Missing => 0,
         Found::Damaged => 0,
         Found::NoLeaf => 0,

@@ -1,7 +1,7 @@
-// Records by their references: the words of an inner record and its child count, those of a leaf and its total, and the reference to a record.
+// Records by their references: the words of an inner record and its child count, those of a leaf and its total.
 ghost use mathlib.Core.Path.{_≡_};
 ghost use mathlib.Core.Bool.{true};
-ghost use Prim.Native.Nat.{_≤_, _+_, _*_, _%_};
+ghost use Prim.Native.Nat.{_%_};
 ghost use lib.ListN.{length};
 ghost use Rattle.frames.specs.Kind.{leafSize};
 ghost use Rattle.frames.specs.Frame.{FrameOf};
@@ -16,14 +16,6 @@ use frames::frame::Frame;
 use frames::kind::LEAF_WORDS;
 use records::header;
 use records::leaf_node;
-
-// The reference to a record of a pool, by its kind and number.
-pub fn reference_to(kind: u32, number: usize) -> u32
-    requires { ⌜ (kind ≤ 5) × (number ≤ 4096) ⌝ }
-    ensures { λ r. ⌜ r ≡ number * 8 + kind ⌝ }
-{
-    number as u32 * 8 + kind
-}
 
 // The words of an inner record.
 pub fn inner_at<'a>(words: &'a [u32], keys: &[u8], f: Frame, reference: u32) -> &'a [u32]
@@ -48,7 +40,7 @@ pub fn leaf_at<'a>(words: &'a [u32], keys: &[u8], f: Frame, n: u32) -> &'a [u32]
     requires { ⌜ FrameOf f (now words) (now keys) × (inPool f (leaf-place n) ≡ true) ⌝ }
     ensures { λ r. ⌜ (now r ≡ recordAt f (now (words .entry)) (leaf-place n)) × (length (now r) ≡ leafSize) ⌝ }
 {
-    let start = frame::start_at(f, reference_to(frame::LEAF, n as usize));
+    let start = frame::start_at(f, frame::reference_to(frame::LEAF, n as usize));
     let e = start + LEAF_WORDS;
     &words[start..e]
 }

@@ -10,7 +10,7 @@ use lib.ListN.{getD}
 use lib.Dec.{leb, ltb}
 use Rattle.lists.proofs.Tests.{both}
 use Rattle.frames.specs.Frame.{FrameOf, capsList, sizesList, startsList}
-use Rattle.frames.specs.Place.{inPool, startAt, sizeAt}
+use Rattle.frames.specs.Place.{inPool, startAt, sizeAt, kindAt, numberAt}
 use Rattle.frames.specs.declared.form.Sizes.{Sizes}
 use Rattle.frames.specs.declared.frame.Caps.{Caps}
 use Rattle.frames.specs.declared.frame.Frame.{Frame}
@@ -19,7 +19,6 @@ use Rattle.frames.proofs.Frames.{framed, frame-size, leaf-size, nth-ends}
 use Rattle.frames.proofs.Places.{inner-kind}
 use Rattle.art.specs.Stores.{Place, leaf-place, inner-place}
 use Rattle.art.specs.Tags.{Order, order, below, equal, above}
-use Rattle.view.specs.Cells.{kindAt, numberAt}
 
 module _ (z : Sizes) (c : Caps) where
   -- a pool ends where the next begins

@@ -12,12 +12,12 @@ use borrow.Author.Tests.{eqb-true, eqb-false, ltb-false, leb-true, lt-ltb, le-le
 use Rattle.lists.specs.Scan.{choose}
 use Rattle.lists.proofs.Tests.{both, and-both}
 use Rattle.lists.proofs.Parts.{between-at}
-use Rattle.frames.specs.Place.{inPool, startAt, sizeAt}
+use Rattle.frames.specs.Place.{inPool, startAt, sizeAt, kindAt, numberAt}
 use Rattle.frames.specs.declared.frame.Frame.{Frame}
 use Rattle.art.specs.Stores.{Place, leaf-place, inner-place}
 use Rattle.pools.specs.Pool.{lowestFrom, lowestFree, freeFrom, freeKind}
 use Rattle.pools.specs.declared.pools.Free.the-variants.{At, Nowhere}
-use Rattle.view.specs.Cells.{kindAt, numberAt, wordZero}
+use Rattle.view.specs.Cells.{wordZero}
 use Rattle.view.specs.Pools.{FreeAt, NoneFree}
 use Rattle.view.proofs.Apart.{start-at, number-few}
 

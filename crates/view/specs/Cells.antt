@@ -1,4 +1,4 @@
--- The pool and number of a place, and the places that a change leaves alone.
+-- Records that are free, and the places that a change leaves alone.
 use Prim.Native.Nat.{ℕ}
 use mathlib.Core.Path.{_≡_}
 use mathlib.Core.List.{List}
@@ -6,17 +6,7 @@ use Rattle.frames.specs.Place.{recordAt}
 use Rattle.records.specs.Words.{usedAs}
 use Rattle.records.specs.View.{cellOf, ruleAt, blankAt}
 use Rattle.frames.specs.declared.frame.Frame.{Frame}
-use Rattle.art.specs.Stores.{Place, leaf-place, inner-place}
-
--- a place's pool, leaves being kind 5
-abbrev pub kindAt : Place → ℕ
-kindAt (leaf-place n) = 5
-kindAt (inner-place k n) = k
-
--- its number there
-abbrev pub numberAt : Place → ℕ
-numberAt (leaf-place n) = n
-numberAt (inner-place k n) = n
+use Rattle.art.specs.Stores.{Place}
 
 -- a record is free where its word 0 is 0
 abbrev pub wordZero : Frame → List ℕ → Place → ℕ

@@ -9,12 +9,11 @@ use lib.ListN.{getD}
 use lib.Dec.{leb, ltb}
 use borrow.Author.Tests.{leb-true, ltb-true}
 use Rattle.lists.proofs.Tests.{both}
-use Rattle.frames.specs.Place.{inPool}
+use Rattle.frames.specs.Place.{inPool, kindAt, numberAt}
 use Rattle.frames.specs.declared.frame.Frame.{Frame}
 use Rattle.art.specs.Stores.{Place, leaf-place, inner-place}
 use Rattle.whole.specs.Marks.{sumTo, placesIn, markAt}
 use Rattle.whole.proofs.Marking.{sum-suc}
-use Rattle.view.specs.Cells.{kindAt, numberAt}
 
 sum-mono : (j k : ℕ) (l : List ℕ) → j ≤ k → sumTo j l ≤ sumTo k l
 sum-mono j zero l h = omega (arith, ap (λ (i : ℕ). sumTo i l) (let q : j ≡ 0 = omega arith in q))

@@ -11,7 +11,7 @@ use Rattle.prefix.specs.declared.Prefix.{Prefix}
 use Rattle.frames.specs.Kind.{childrenOf}
 use Rattle.frames.specs.Form.{Stores, recordWords}
 use Rattle.frames.specs.Frame.{FrameOf, frameOf, trailerOf}
-use Rattle.frames.specs.Place.{placeAt, inPool, startAt, sizeAt, recordAt, putAt, putKey}
+use Rattle.frames.specs.Place.{placeAt, inPool, startAt, sizeAt, recordAt, putAt, putKey, kindAt}
 use Rattle.frames.specs.declared.frame.Frame.{Frame}
 use Rattle.frames.proofs.FormTable.{form-rules}
 use Rattle.frames.proofs.Frames.{totals}
@@ -22,7 +22,6 @@ use Rattle.art.specs.Stores.{Place, leaf-place, inner-place}
 use Rattle.edits.specs.declared.representation.Change.{Change}
 use Rattle.edits.specs.declared.representation.Change.the-variants.{Add, Remove, Replace}
 use Rattle.edits.specs.Change.{Needs}
-use Rattle.view.specs.Cells.{kindAt}
 use Rattle.points.specs.There.{InnerHere}
 use Rattle.points.proofs.Here.{place-kind}
 use Rattle.writes.specs.At.{Changes, InnerPlace}

@@ -6,7 +6,7 @@ use mathlib.Core.Bool.{true}
 use lib.ListN.{set, replicate}
 use Rattle.prefix.specs.declared.Prefix.{Prefix}
 use Rattle.frames.specs.Kind.{childrenOf}
-use Rattle.frames.specs.Place.{inPool, sizeAt, recordAt, putAt}
+use Rattle.frames.specs.Place.{inPool, sizeAt, recordAt, putAt, kindAt}
 use Rattle.frames.specs.declared.frame.Frame.{Frame}
 use Rattle.records.specs.Words.{childCount}
 use Rattle.records.specs.Own.{prefixAt}
@@ -17,7 +17,6 @@ use Rattle.edits.specs.Head.{setPrefix}
 use Rattle.edits.specs.declared.representation.Change.{Change}
 use Rattle.edits.specs.Record.{changeOf, spreadOf, buildRec}
 use Rattle.edits.specs.Rows.{rowPair}
-use Rattle.view.specs.Cells.{kindAt}
 use Rattle.points.specs.There.{InnerHere, HasChild}
 
 -- the children changed for a byte

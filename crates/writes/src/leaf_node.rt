@@ -28,7 +28,7 @@ fn leaf_start(words: &[u32], keys: &[u8], f: Frame, n: u32) -> usize
     requires { ⌜ FrameOf f (now words) (now keys) × (inPool f (leaf-place n) ≡ true) ⌝ }
     ensures { λ r. ⌜ (r ≡ startAt f (leaf-place n)) × (r + leafSize ≤ length (now (words .entry))) ⌝ }
 {
-    frame::start_at(f, n * 8 + frame::LEAF)
+    frame::start_at(f, frame::reference_to(frame::LEAF, n as usize))
 }
 
 // The first of its key bytes.

@@ -7,14 +7,20 @@ use borrow.Author.Needs.{needs}
 use Rattle.points.proofs.insert_point.lowest_leaf.Statement.{statement}
 use Rattle.points.proofs.insert_point.lowest_leaf.Tie as tie
 
-mul-result : tie.Need-mul-result
-mul-result c = omega (arith, lowest-small _ _ _ (c .before .before .before .before .before .before .pre) _ _ _ (sym (c .before .before .before .edge-walk .ensures) ∙ c .before .low .given .1))
+cast-reference-to : tie.Need-cast-reference-to
+cast-reference-to c =
+    let walked = c .before .before .before in
+    omega (arith, lowest-small _ _ _ (walked .before .before .before .pre) _ _ _ (sym (walked .edge-walk .ensures) ∙ c .before .low .given .1))
 
-add-result : tie.Need-add-result
-add-result c = omega (arith, lowest-small _ _ _ (c .before .before .before .before .before .before .pre) _ _ _ (sym (c .before .before .before .edge-walk .ensures) ∙ c .before .low .given .1))
+reference-to-requires : tie.Need-reference-to-requires
+reference-to-requires c κs =
+    let walked = c .before .before .before in
+    (omega arith, lowest-small _ _ _ (walked .before .before .before .pre) _ _ _ (sym (walked .edge-walk .ensures) ∙ c .before .low .given .1))
 
 returns : tie.Need-returns
-returns c = ref-by _ _ (sym (c .before .before .before .edge-walk .ensures) ∙ c .before .low .given .1)
+returns c =
+    let told = c .before .before in
+    c .reference-to .ensures ∙ ref-by _ _ (sym (told .before .before .edge-walk .ensures) ∙ told .low .given .1)
 
 returns-2 : tie.Need-returns-2
 returns-2 c = ref-by _ _ (sym (c .before .before .edge-walk .ensures) ∙ c .enum-told .given .1)
@@ -31,8 +37,8 @@ lowest-leaf-spec =
     (tie.spec
     (λ c κs. search needs)
     (λ c. search needs)
-    mul-result
-    add-result
+    cast-reference-to
+    reference-to-requires
     (λ c. search needs)
     (λ c. search needs)
     (λ c. search needs)

@@ -3,11 +3,10 @@ use mathlib.Core.Path.{ap, _∙_}
 use native.Mathlib.Omega.{arith}
 use lib.ListN.{set, replicate}
 use Rattle.lists.specs.Part.{splice}
-use Rattle.frames.specs.Place.{placeAt, putAt}
+use Rattle.frames.specs.Place.{placeAt, putAt, kindAt}
 use Rattle.frames.proofs.KindTable.{kind-rules}
 use Rattle.records.specs.Row.{directRow}
 use Rattle.edits.specs.Record.{buildRec}
-use Rattle.view.specs.Cells.{kindAt}
 use Rattle.writes.specs.At.{branchAt}
 use Rattle.writes.proofs.Spots.{part-made, build-ready}
 use Rattle.writes.proofs.Branches.{pair-long, pair-row, pair-count}

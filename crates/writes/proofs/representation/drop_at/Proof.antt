@@ -4,13 +4,12 @@ use native.Mathlib.Omega.{arith}
 use lib.ListN.{length, set, length-set}
 use Rattle.lists.specs.Part.{splice}
 use Rattle.lists.specs.Scan.{howMany, nonzero}
-use Rattle.frames.specs.Place.{placeAt, recordAt, putAt}
+use Rattle.frames.specs.Place.{placeAt, recordAt, putAt, kindAt}
 use Rattle.frames.proofs.FormTable.{stored-eight}
 use Rattle.records.specs.Own.{prefixAt}
 use Rattle.records.specs.Row.{directRow}
 use Rattle.edits.specs.Record.{buildRec}
 use Rattle.edits.proofs.Inners.{inner-own}
-use Rattle.view.specs.Cells.{kindAt}
 use Rattle.writes.specs.At.{dropAt}
 use Rattle.writes.proofs.Spots.{part-made, build-ready}
 use Rattle.writes.proofs.Branches.{spread-long, drop-count}
