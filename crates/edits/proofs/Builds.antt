@@ -69,11 +69,12 @@ module _ (form : Form) (kind : ℕ) (w : List ℕ) (n h e : ℕ) (zeros : w ≡ 
 
   -- with a body and a head laid over the zeros it is the record of the row
   pub built : Stores form → (p : Prefix) (places body : List ℕ) (m : ℕ) → m ≡ howMany nonzero places → body ≡ bodyOf kind (directRow places)
-      → setHead form kind m p (splice w h e body) ≡ buildRec form kind p (directRow places)
+      → {rec : List ℕ} → rec ≡ setHead form kind m p (splice w h e body) → rec ≡ buildRec form kind p (directRow places)
   unfolding buildRec
-  built stores p places body m many b =
+  built stores p places body m many b told =
       let z = replicate {A = ℕ} (header form) 0 in
-      ap (λ (x : List ℕ). setHead form kind m p (splice x h e body)) (zeros ∙ ap (λ (k : ℕ). replicate k 0) (long ∙ sym end))
+      told
+      ∙ ap (λ (x : List ℕ). setHead form kind m p (splice x h e body)) (zeros ∙ ap (λ (k : ℕ). replicate k 0) (long ∙ sym end))
       ∙ ap (setHead form kind m p) (zeros-then h e body (omega arith) ∙ ap (λ (k : ℕ). replicate k 0 ++ body) at)
       ∙ head-left form stores kind m p z body (omega (arith, length-replicate {A = ℕ} (header form) 0))
       ∙ ap₂ (λ (k : ℕ) (l : List ℕ). setHead form kind k p z ++ l) (many ∙ sym (filled-length 0 places)) b

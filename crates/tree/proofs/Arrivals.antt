@@ -51,9 +51,10 @@ module _ {f : Frame} {words keys : List ℕ} (w : FrameOf f words keys) where
         let t : start ≡ startAt f (leaf-place n) = s ∙ ap (startAt f) e in
         (omega arith, leaf-room w n q)
 
-    pub rule-leaf : leafOk (f .form .limit) (between words start (start + 6)) (keyAt f keys n) ≡ ruleAt f words keys x
-    rule-leaf =
-        ap (λ (a : ℕ). leafOk (f .form .limit) (between words a (a + 6)) (keyAt f keys n)) (s ∙ ap (startAt f) e)
+    pub rule-leaf : {r : Bool} → r ≡ leafOk (f .form .limit) (between words start (start + 6)) (keyAt f keys n) → r ≡ ruleAt f words keys x
+    rule-leaf told =
+        told
+        ∙ ap (λ (a : ℕ). leafOk (f .form .limit) (between words a (a + 6)) (keyAt f keys n)) (s ∙ ap (startAt f) e)
         ∙ sym (ap (ruleAt f words keys) e)
 
     pub leaf-stands : ruleAt f words keys x ≡ true → LeafThere (f .form .limit) words keys n start
@@ -67,7 +68,7 @@ module _ {f : Frame} {words keys : List ℕ} (w : FrameOf f words keys) where
               record {
                 long = subst (λ (a : ℕ). length (between words a (a + 6)) ≡ 6) t (record-length w (leaf-place n) q);
                 wide = key-length w n q;
-                ok = rule-leaf ∙ r;
+                ok = rule-leaf refl ∙ r;
               };
         }
 
@@ -80,9 +81,10 @@ module _ {f : Frame} {words keys : List ℕ} (w : FrameOf f words keys) where
         let t : start ≡ startAt f (inner-place k n) = s ∙ ap (startAt f) e in
         (inner-kind w k n q, omega arith)
 
-    pub rule-inner : innerOk (f .form) k (between words start (start + recordWords (f .form) k)) ≡ ruleAt f words keys x
-    rule-inner =
-        ap (λ (a : ℕ). innerOk (f .form) k (between words a (a + recordWords (f .form) k))) (s ∙ ap (startAt f) e)
+    pub rule-inner : {r : Bool} → r ≡ innerOk (f .form) k (between words start (start + recordWords (f .form) k)) → r ≡ ruleAt f words keys x
+    rule-inner told =
+        told
+        ∙ ap (λ (a : ℕ). innerOk (f .form) k (between words a (a + recordWords (f .form) k))) (s ∙ ap (startAt f) e)
         ∙ sym (ap (ruleAt f words keys) e)
 
     pub inner-stands : ruleAt f words keys x ≡ true → InnerThere (f .form) words k start
@@ -98,7 +100,7 @@ module _ {f : Frame} {words keys : List ℕ} (w : FrameOf f words keys) where
                 long =
                     subst (λ (a : ℕ). length (between words a (a + recordWords (f .form) k)) ≡ recordWords (f .form) k) t
                     (record-length w (inner-place k n) q);
-                ok = rule-inner ∙ r;
+                ok = rule-inner refl ∙ r;
               };
         }
 

@@ -68,3 +68,14 @@ module _ (f : Frame) (words keys : List ℕ) (edge : Edge) where
 -- the walk at some point, with n steps left: what it answers from there is what it answers from the root
 pub record Descending (f : Frame) (words keys : List ℕ) (edge : Edge) (root n ref : ℕ) : Type 0 where
   pub same-answer : edgeOf f words keys edge (f .form .limit) root ≡ edgesOf f words keys edge n ref
+
+-- one turn of it: the step that is taken ends the walk, or it goes on
+module _ {f : Frame} {words keys : List ℕ} {edge : Edge} {root n ref : ℕ} (w : Descending f words keys edge root n ref) (h : 0 < n) {s : EdgeStep} (taken : s ≡ edgeStep f words keys edge (n - 1) ref) where
+  from-here : edgeOf f words keys edge (f .form .limit) root ≡ edgeOf f words keys edge (n - 1) ref
+  from-here = w .same-answer ∙ edges-on f words keys edge n ref h
+
+  pub descending-ends : {r a : Found} → r ≡ edgeEnded s → s ≡ Final a → r ≡ edgeOf f words keys edge (f .form .limit) root
+  descending-ends {a = a} told e = told ∙ ap edgeEnded e ∙ sym (from-here ∙ edge-end f words keys edge (n - 1) ref a (sym taken ∙ e))
+
+  pub descending-on : {r : ℕ} → s ≡ Next r → Descending f words keys edge root (n - 1) r
+  descending-on {r} e = record { same-answer = from-here ∙ edges-next f words keys edge (n - 1) ref r (sym taken ∙ e) }

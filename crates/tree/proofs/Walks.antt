@@ -151,3 +151,19 @@ module _ (f : Frame) (words keys tag : List ℕ) (aim : Aim) where
 pub record Walking (f : Frame) (words keys tag : List ℕ) (aim : Aim) (root n ref depth : ℕ) (behavior : PrefixMatchBehavior) : Type 0 where
   pub within : depth ≤ length tag
   pub same-answer : walkOf f words keys tag aim (f .form .limit) root 0 Pessimistic ≡ stepsOf f words keys tag aim n ref depth behavior
+
+-- one turn of it: the step that is taken ends the walk, or it goes on
+module _ {f : Frame} {words keys tag : List ℕ} {aim : Aim} {root n ref depth : ℕ} {behavior : PrefixMatchBehavior} (w : Walking f words keys tag aim root n ref depth behavior) (h : 0 < n) {s : Step} (taken : s ≡ stepOf f words keys tag aim (n - 1) ref depth behavior) where
+  from-here : walkOf f words keys tag aim (f .form .limit) root 0 Pessimistic ≡ walkOf f words keys tag aim (n - 1) ref depth behavior
+  from-here = w .same-answer ∙ steps-on f words keys tag aim n ref depth behavior h
+
+  pub walking-ends : {r a : Found} → r ≡ endedOf s → s ≡ Final a → r ≡ walkOf f words keys tag aim (f .form .limit) root 0 Pessimistic
+  walking-ends {a = a} told e = told ∙ ap endedOf e ∙ sym (from-here ∙ walk-end f words keys tag aim (n - 1) ref depth behavior a (sym taken ∙ e))
+
+  pub walking-on : {r d : ℕ} {b : PrefixMatchBehavior} → s ≡ Next r d b → Walking f words keys tag aim root (n - 1) r d b
+  walking-on {r} {d} {b} e =
+      let q = sym taken ∙ e in
+      record {
+        within = step-depth f words keys tag aim (n - 1) ref depth behavior r d b q;
+        same-answer = from-here ∙ steps-next f words keys tag aim (n - 1) ref depth behavior r d b q;
+      }

@@ -1,5 +1,4 @@
 -- `representation::build` meets its contract: the body is laid over zeros, then the head, which does not reach into it.
-use mathlib.Core.Path.{_∙_}
 use native.Mathlib.Omega.{arith}
 use lib.ListN.{length}
 use borrow.Author.Needs.{needs}
@@ -32,8 +31,7 @@ returns c =
     let b13 = b12 .before in
     let b14 = b13 .before in
     let s = b14 .before .before .before in
-    c .before .before .set-head .ensures
-    ∙ built (s .args .form) (s .args .kind) (b10 .clear .last .0) (length (s .args .rec .now)) (b13 .header-of .result) (b12 .record-words .result) (b10 .clear .ensures) (s .pre .0 .1) (b13 .header-of .ensures .0) (b12 .record-words .ensures .0) (s .pre .1 .0 .0) (s .args .p) (s .args .t5) (b6 .body-fill .last .0) (b14 .count-nonzero .result) (b14 .count-nonzero .ensures) (b6 .body-fill .ensures)
+    built (s .args .form) (s .args .kind) (b10 .clear .last .0) (length (s .args .rec .now)) (b13 .header-of .result) (b12 .record-words .result) (b10 .clear .ensures) (s .pre .0 .1) (b13 .header-of .ensures .0) (b12 .record-words .ensures .0) (s .pre .1 .0 .0) (s .args .p) (s .args .t5) (b6 .body-fill .last .0) (b14 .count-nonzero .result) (b14 .count-nonzero .ensures) (b6 .body-fill .ensures) (c .before .before .set-head .ensures)
 
 pub build-spec : {M : Type 1} → statement M
 build-spec =

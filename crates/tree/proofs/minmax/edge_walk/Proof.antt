@@ -1,9 +1,8 @@
 -- `minmax::edge_walk` meets its contract: at each turn the way down from here ends where the way down from the root does.
-use mathlib.Core.Path.{sym, ap, _∙_}
+use mathlib.Core.Path.{sym, _∙_}
 use native.Mathlib.Omega.{arith}
 use Rattle.frames.proofs.Frames.{limit-small}
-use Rattle.tree.specs.Edge.{edgeEnded}
-use Rattle.tree.proofs.Edges.{Descending, edge-end, edges-first, edges-on, edges-next, edges-over}
+use Rattle.tree.proofs.Edges.{Descending, edges-first, edges-over, descending-ends, descending-on}
 use borrow.Author.Needs.{needs}
 use Rattle.tree.proofs.minmax.edge_walk.Statement.{statement}
 use Rattle.tree.proofs.minmax.edge_walk.Tie as tie
@@ -27,17 +26,13 @@ returns : tie.Need-returns Inv-loop μ-loop
 returns c =
     let t = c .before .before .before in
     let l = t .before .before .loop in
-    let e = c .before .enum-told .given .1 in
-    c .edge-ended .ensures
-    ∙ ap edgeEnded e
-    ∙ sym (l .inv .same-answer ∙ edges-on _ _ _ _ _ _ (t .before .loop-test .taken) ∙ edge-end _ _ _ _ _ _ _ (sym (t .edge-step .ensures) ∙ e))
+    descending-ends (l .inv) (t .before .loop-test .taken) (t .edge-step .ensures) (c .edge-ended .ensures) (c .before .enum-told .given .1)
 
 loop-again : tie.Need-loop-again Inv-loop μ-loop
 loop-again c =
     let t = c .before .before .before in
     let l = t .before .before .loop in
-    let e = sym (t .edge-step .ensures) ∙ c .before .s .given .1 in
-    record { same-answer = l .inv .same-answer ∙ edges-on _ _ _ _ _ _ (t .before .loop-test .taken) ∙ edges-next _ _ _ _ _ _ _ e }
+    descending-on (l .inv) (t .before .loop-test .taken) (t .edge-step .ensures) (c .before .s .given .1)
 
 returns-2 : tie.Need-returns-2 Inv-loop μ-loop
 returns-2 c = edges-over _ _ _ _ _ _ (c .loop-test .left) ∙ sym (c .before .loop .inv .same-answer)
