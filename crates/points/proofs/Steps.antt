@@ -1,5 +1,5 @@
 -- The cases of `leafPoint`, `runBelow`, `runOf`, `forkPoint`, `innerStep`, `stepOf` and `pointFrom`.
-use Prim.Native.Nat.{ℕ, zero, suc, _+_, _-_, _*_, _≤_, _<_, min}
+use Prim.Native.Nat.{ℕ, zero, suc, _+_, _-_, _*_, _^_, _≤_, _<_, min}
 use mathlib.Core.Path.{_≡_, refl, sym, ap, subst, _∙_}
 use mathlib.Core.List.{List}
 use mathlib.Core.Bool.{Bool, true, false}
@@ -8,6 +8,8 @@ use borrow.Author.Tests.{le-leb, lt-leb, ne-eqb, leb-true, leb-false, eqb-false}
 use lib.ListN.{length, getD, take, drop, drop-of-length-le, length-drop}
 use lib.Seq.{take-all}
 use lib.Dec.{eqb, leb}
+use mir.Syntax.{w64}
+use mir.Val.{Fits}
 use Rattle.lists.specs.Scan.{choose}
 use Rattle.lists.specs.Compare.{shared}
 use Rattle.lists.specs.Part.{between}
@@ -134,7 +136,7 @@ module _ (f : Frame) (words keys tag : List ℕ) (ref d : ℕ) (p : Prefix) wher
   below-within h found.NoLeaf c e = absurd (let z : _≡_ {A = ℕ} 0 1 = cc in omega arith)
 
   -- as many bytes as the tag has, at most
-  pub run-within : d ≤ length tag → (c : ℕ) → runOf f words keys tag ref d p ≡ Agrees c → d + c ≤ length tag
+  run-within : d ≤ length tag → (c : ℕ) → runOf f words keys tag ref d p ≡ Agrees c → d + c ≤ length tag
   unfolding runOf
   run-within h c e = go (leb (p .full .0) 8) e
     where
@@ -144,6 +146,9 @@ module _ (f : Frame) (words keys tag : List ℕ) (ref d : ℕ) (p : Prefix) wher
           omega (arith, shared-le (held p) (drop d tag) .1, length-drop d tag)
       go false e = below-within h (lowestOf f words keys ref) c e
 
+  pub run-fits : {r : Run} {c : ℕ} → r ≡ runOf f words keys tag ref d p → r ≡ Agrees c → d ≤ length tag → length tag < 2 ^ 64 → Fits w64 (d + c)
+  run-fits {r} {c} er e h k = omega (arith, run-within h c (sym er ∙ e))
+
 -- ── past a run ──
 module _ (up : Up) (ref byte d c child : ℕ) (e : child ≡ c) where
   pub child-none : child ≡ 0 → Final (Into up ref byte) ≡ childStep up ref byte c d
@@ -152,16 +157,17 @@ module _ (up : Up) (ref byte d c child : ℕ) (e : child ≡ c) where
   pub child-some : (child ≡ 0 → ⊥) → Next child d byte ≡ childStep up ref byte c d
   child-some z = simp (ne-eqb child 0 z) at (ap (λ (n : ℕ). childStep up ref byte n d) e)
 
--- ── at an inner record, whose prefix was read as p ──
-module _ (f : Frame) (words keys tag : List ℕ) (kind : ℕ) (rec : List ℕ) (ref d : ℕ) (up : Up) (p : Prefix) (ep : p ≡ prefixAt (f .form) rec) where
-  inner-by : (r : Run) → runOf f words keys tag ref d p ≡ r → runStep f words keys tag kind rec ref d up r ≡ innerStep f words keys tag kind rec ref d up
+-- ── at an inner record, whose prefix was read as p, and of whose run so much agrees ──
+module _ (f : Frame) (words keys tag : List ℕ) (kind : ℕ) (rec : List ℕ) (ref d : ℕ) (up : Up) {p : Prefix} (ep : p ≡ prefixAt (f .form) rec)
+    {r : Run} (er : r ≡ runOf f words keys tag ref d p) where
+  inner-by : runStep f words keys tag kind rec ref d up r ≡ innerStep f words keys tag kind rec ref d up
   unfolding innerStep
-  inner-by r e = ap (runStep f words keys tag kind rec ref d up) (sym e ∙ ap (runOf f words keys tag ref d) ep)
+  inner-by = ap (runStep f words keys tag kind rec ref d up) (er ∙ ap (runOf f words keys tag ref d) ep)
 
-  pub inner-lost : runOf f words keys tag ref d p ≡ Lost → Final Broken ≡ innerStep f words keys tag kind rec ref d up
-  inner-lost e = inner-by Lost e
+  pub inner-lost : r ≡ Lost → Final Broken ≡ innerStep f words keys tag kind rec ref d up
+  inner-lost e = ap (runStep f words keys tag kind rec ref d up) (sym e) ∙ inner-by
 
-  module _ (c : ℕ) (e : runOf f words keys tag ref d p ≡ Agrees c) where
+  module _ {c : ℕ} (e : r ≡ Agrees c) where
     abbrev past : Prefix → Step
     past q =
         choose (leb (q .full .0) c)
@@ -169,7 +175,10 @@ module _ (f : Frame) (words keys tag : List ℕ) (kind : ℕ) (rec : List ℕ) (
         (Final (forkPoint up ref d c (lowestOf f words keys ref)))
 
     stepped : choose (leb (length tag) (d + c)) (Final Clash) (past p) ≡ innerStep f words keys tag kind rec ref d up
-    stepped = ap (λ (q : Prefix). choose (leb (length tag) (d + c)) (Final Clash) (past q)) ep ∙ inner-by (Agrees c) e
+    stepped =
+        ap (λ (q : Prefix). choose (leb (length tag) (d + c)) (Final Clash) (past q)) ep
+        ∙ ap (runStep f words keys tag kind rec ref d up) (sym e)
+        ∙ inner-by
 
     pub inner-clash : length tag ≤ d + c → Final Clash ≡ innerStep f words keys tag kind rec ref d up
     inner-clash h = simp (le-leb (length tag) (d + c) h) at stepped

@@ -1,6 +1,6 @@
 -- The frame stays when a record is written and the words are as many as before: then the record has its place's length, and the trailer is untouched.
 use Prim.Native.Nat.{ℕ, _+_, _-_, _≤_}
-use mathlib.Core.Path.{_≡_, sym, ap, _∙_}
+use mathlib.Core.Path.{_≡_, refl, sym, ap, _∙_}
 use mathlib.Core.List.{List, _++_}
 use mathlib.Core.Bool.{true}
 use native.Mathlib.Omega.{arith}
@@ -19,7 +19,7 @@ use Rattle.points.specs.declared.insert_point.Up.{Up}
 use Rattle.points.specs.declared.insert_point.Up.the-variants.{Top, Via}
 use Rattle.points.specs.There.{UpThere}
 use Rattle.pools.specs.Link.{setTrailer}
-use Rattle.view.proofs.Puts.{put-fits}
+use Rattle.view.proofs.Puts.{frame-stays, put-fits}
 use Rattle.view.proofs.Trailers.{trailer-fits}
 use Rattle.writes.specs.At.{changeAt, prefixedAt, branchAt, moveAt, dropAt, clearAt}
 use Rattle.writes.specs.Above.{linkUp}
@@ -31,6 +31,10 @@ unfolding splice
 splice-kept l a e p ae el kept =
     let back : drop (e - a) (drop a l) ≡ drop e l = drop-drop (e - a) a l ∙ ap (λ (n : ℕ). drop n l) (let q : a + (e - a) ≡ e = omega arith in q) in
     omega (arith, kept, length-append (take a l) (p ++ drop (e - a) (drop a l)), length-append p (drop (e - a) (drop a l)), length-take-le a l (omega arith), ap length back, length-drop e l)
+
+-- of the key bytes only their number counts
+pub keys-kept : {f : Frame} {words keys out : List ℕ} → FrameOf f words keys → length out ≡ length keys → FrameOf f words out
+keys-kept {f} {words} {keys} {out} w e = frame-stays w words out refl e refl
 
 module _ {f : Frame} {words keys : List ℕ} (w : FrameOf f words keys) (out : List ℕ) (kept : length out ≡ length words) where
   pub put-kept : (x : Place) → inPool f x ≡ true → (rec : List ℕ) → out ≡ putAt f words x rec → FrameOf f out keys

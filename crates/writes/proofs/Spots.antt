@@ -4,7 +4,9 @@ use mathlib.Core.Path.{_≡_, refl, sym, ap, ap₂, subst, _∙_}
 use mathlib.Core.List.{List}
 use mathlib.Core.Bool.{true}
 use native.Mathlib.Omega.{arith}
-use lib.ListN.{length, getD}
+use lib.ListN.{length, getD, replicate}
+use mir.Syntax.{w32}
+use mir.Val.{Fits}
 use Rattle.lists.specs.Scan.{howMany, nonzero}
 use Rattle.lists.specs.Part.{between, splice}
 use Rattle.prefix.specs.declared.Prefix.{Prefix}
@@ -14,17 +16,21 @@ use Rattle.frames.specs.Frame.{FrameOf, frameOf, trailerOf}
 use Rattle.frames.specs.Place.{placeAt, inPool, startAt, sizeAt, recordAt, putAt, putKey, kindAt}
 use Rattle.frames.specs.declared.frame.Frame.{Frame}
 use Rattle.frames.proofs.FormTable.{form-rules}
-use Rattle.frames.proofs.Frames.{totals}
+use Rattle.frames.proofs.Frames.{totals, limit-small}
 use Rattle.frames.proofs.Places.{place-room, record-length, key-length}
 use Rattle.records.specs.Own.{prefixAt, childAt}
 use Rattle.records.proofs.Owns.{inner-rule}
+use Rattle.art.specs.Chain.{leaf-ref}
 use Rattle.art.specs.Stores.{Place, leaf-place, inner-place}
+use Rattle.pools.specs.Leaf.{leafWords}
+use Rattle.pools.specs.Link.{setNext, setPrevious}
 use Rattle.edits.specs.declared.representation.Change.{Change}
 use Rattle.edits.specs.declared.representation.Change.the-variants.{Add, Remove, Replace}
 use Rattle.edits.specs.Change.{Needs}
 use Rattle.points.specs.There.{InnerHere}
 use Rattle.points.proofs.Here.{place-kind}
 use Rattle.writes.specs.At.{Changes, InnerPlace}
+use Rattle.writes.specs.Leaf.{leafIn, leafOut}
 
 -- an inner record's place has the size of its kind
 pub inner-size : (f : Frame) (x : Place) → kindAt x ≤ 4 → sizeAt f x ≡ recordWords (f .form) (kindAt x)
@@ -117,9 +123,21 @@ module _ {f : Frame} {words keys : List ℕ} (w : FrameOf f words keys) (n : ℕ
   pub key-put : (p q : List ℕ) → p ≡ q → splice keys a (a + f .form .limit) p ≡ putKey f keys n q
   key-put p q e = ap₂ (λ (i : ℕ) (l : List ℕ). splice keys i (i + f .form .limit) l) start e
 
--- a frame fits words and key bytes that equal those that it fits
+-- a word can hold the length of a tag
+pub tag-fits : {f : Frame} {words keys : List ℕ} → FrameOf f words keys → (tag : List ℕ) → length tag ≤ f .form .limit → Fits w32 (length tag)
+tag-fits w tag h = omega (arith, limit-small w)
+
+-- a leaf is put in, and taken out, where its words are written after the links of its neighbours
+module _ (f : Frame) (n p q : ℕ) (words : List ℕ) {l out : List ℕ} where
+  pub leaf-in-by : (len total : ℕ) → out ≡ putAt f l (leaf-place n) (leafWords len p q total)
+      → l ≡ setPrevious f q (leaf-ref n) (setNext f p (leaf-ref n) words) → out ≡ leafIn f n len p q total words
+  unfolding leafIn
+  leaf-in-by len total e h = e ∙ ap (λ (x : List ℕ). putAt f x (leaf-place n) (leafWords len p q total)) h
+
+  pub leaf-out-by : out ≡ putAt f l (leaf-place n) (replicate 6 0) → l ≡ setPrevious f q p (setNext f p q words) → out ≡ leafOut f n p q words
+  unfolding leafOut
+  leaf-out-by e h = e ∙ ap (λ (x : List ℕ). putAt f x (leaf-place n) (replicate 6 0)) h
+
+-- a frame fits words that equal those that it fits
 pub fits-words : {f : Frame} {l m keys : List ℕ} → FrameOf f l keys → m ≡ l → FrameOf f m keys
 fits-words {f} {l} {m} {keys} w e = subst (λ (x : List ℕ). FrameOf f x keys) (sym e) w
-
-pub fits-keys : {f : Frame} {words l m : List ℕ} → FrameOf f words l → m ≡ l → FrameOf f words m
-fits-keys {f} {words} {l} {m} w e = subst (FrameOf f words) (sym e) w

@@ -8,7 +8,7 @@ ghost use Rattle.frames.specs.Frame.{FrameOf};
 ghost use Rattle.frames.specs.Place.{inPool, startAt, putAt};
 ghost use Rattle.art.specs.Stores.{leaf-place};
 ghost use Rattle.pools.specs.Leaf.{leafWords};
-ghost use Rattle.pools.specs.Link.{LeafOrEnd};
+ghost use Rattle.pools.specs.Link.{LeafOrEnd, setNext, setPrevious};
 ghost use Rattle.writes.specs.Leaf.{leafIn, keyIn, leafOut, keyOut, totalAt};
 use frames::frame;
 use frames::frame::Frame;
@@ -59,6 +59,15 @@ fn key_in(keys: &mut [u8], words: &[u32], f: Frame, n: u32, tag: &[u8])
     edit::pad_bytes(&mut keys[start..end], tag);
 }
 
+// The leaf before a gap names another after it, and the one after the gap another before it; the frame stays.
+fn link_gap(words: &mut [u32], keys: &[u8], f: Frame, gap: Gap, next: u32, previous: u32)
+    requires { ⌜ FrameOf f (now words) (now keys) × (LeafOrEnd f (gap .previous) × LeafOrEnd f (gap .next)) ⌝ }
+    ensures { λ _. ⌜ (now (words .exit) ≡ setPrevious f (gap .next) previous (setNext f (gap .previous) next (now (words .entry)))) × FrameOf f (now (words .exit)) (now (keys .entry)) ⌝ }
+{
+    links::set_next(words, keys, f, gap.previous, next);
+    links::set_previous(words, keys, f, gap.next, previous);
+}
+
 // Leaf `n` put in between two neighbours, with its tag and its total.
 pub fn leaf_in(
     words: &mut [u32],
@@ -73,9 +82,8 @@ pub fn leaf_in(
     ensures { λ _. ⌜ (now (words .exit) ≡ leafIn f n (length (now (tag .entry))) (gap .previous) (gap .next) total (now (words .entry))) × (now (keys .exit) ≡ keyIn f n (now (tag .entry)) (now (keys .entry))) ⌝ }
 {
     let reference = n * 8 + frame::LEAF;
-    links::set_next(words, keys, f, gap.previous, reference);
-    links::set_previous(words, keys, f, gap.next, reference);
     key_in(keys, words, f, n, tag);
+    link_gap(words, keys, f, gap, reference, reference);
     write_at(words, keys, f, n, tag.len() as u32, gap, total);
 }
 
@@ -104,9 +112,8 @@ pub fn leaf_out(words: &mut [u32], keys: &mut [u8], f: Frame, n: u32, gap: Gap)
     requires { ⌜ (FrameOf f (now words) (now keys) × (inPool f (leaf-place n) ≡ true)) × (LeafOrEnd f (gap .previous) × LeafOrEnd f (gap .next)) ⌝ }
     ensures { λ _. ⌜ (now (words .exit) ≡ leafOut f n (gap .previous) (gap .next) (now (words .entry))) × (now (keys .exit) ≡ keyOut f n (now (keys .entry))) ⌝ }
 {
-    links::set_next(words, keys, f, gap.previous, gap.next);
-    links::set_previous(words, keys, f, gap.next, gap.previous);
     key_out(keys, words, f, n);
+    link_gap(words, keys, f, gap, gap.next, gap.previous);
     clear_at(words, keys, f, n);
 }
 
