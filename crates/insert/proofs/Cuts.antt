@@ -1,11 +1,13 @@
--- What is below a new branching: a leaf stays as it is, and a record's prefix is cut; and the branching is made from what was read before.
+-- What is below a new branching: a leaf stays as it is, and a record's prefix is cut.
 use Prim.Native.Nat.{ℕ, _+_, _%_, _/_, _≤_, _<_}
-use mathlib.Core.Path.{_≡_, refl, sym, ap, _∙_}
+use mathlib.Core.Path.{_≡_, refl, sym, ap, subst, _∙_}
 use mathlib.Core.List.{List}
 use mathlib.Core.Bool.{Bool, true, false, true≢false}
 use native.Mathlib.Omega.{arith}
-use lib.ListN.{length, getD, drop, length-take}
+use lib.ListN.{length, drop, length-take}
 use lib.Dec.{eqb, leb}
+use mir.Syntax.{w32}
+use mir.Val.{Fits}
 use borrow.Author.Tests.{eq-eqb, ne-eqb, eqb-true}
 use Rattle.lists.specs.Scan.{choose}
 use Rattle.lists.specs.Part.{between}
@@ -15,20 +17,24 @@ use Rattle.prefix.proofs.Eights.{eight-length}
 use Rattle.frames.specs.Frame.{FrameOf}
 use Rattle.frames.specs.Place.{placeAt, inPool, recordAt, keyAt}
 use Rattle.frames.specs.declared.frame.Frame.{Frame}
+use Rattle.frames.proofs.FormTable.{stored-eight}
+use Rattle.frames.proofs.Frames.{limit-small}
 use Rattle.frames.proofs.Places.{inner-kind, key-length}
 use Rattle.records.specs.Own.{prefixAt}
 use Rattle.art.specs.Stores.{Place, leaf-place, inner-place}
 use Rattle.whole.specs.Witness.{lengthAt, tagAt, LeafSeen}
 use Rattle.points.specs.There.{InnerHere}
-use Rattle.writes.specs.At.{prefixedAt, branchAt}
-use Rattle.insert.specs.Apply.{cutAt, CutOrLeaf, forked}
+use Rattle.writes.specs.At.{InnerPlace, prefixedAt}
+use Rattle.writes.proofs.Spots.{here-place, prefix-short}
+use Rattle.writes.proofs.Kept.{prefixed-kept}
+use Rattle.insert.specs.Apply.{cutAt, CutOrLeaf}
 
 -- eight bytes are stored of every prefix
 pub run-stored : (run : List ℕ) → length (prefixOf run .stored) ≡ 8
 unfolding prefixOf
 run-stored run = eight-length run
 
-pub split-stored : (p : Prefix) (n : ℕ) (leaf : List ℕ) (depth : ℕ) → length (splitOf p n leaf depth .stored) ≡ 8
+split-stored : (p : Prefix) (n : ℕ) (leaf : List ℕ) (depth : ℕ) → length (splitOf p n leaf depth .stored) ≡ 8
 unfolding splitOf ltrimOf prefixOf
 split-stored p n leaf depth = go (leb (p .full .0) 8)
   where
@@ -51,7 +57,7 @@ pool-some {f} w ref h = go (eqb (ref % 8) 5) refl h
 
 -- ── by the kind of what is below ──
 -- a record whose prefix is longer than what agrees of it
-pub record Cuts (f : Frame) (words : List ℕ) (x : Place) (c : ℕ) (t : List ℕ) (d : ℕ) : Type 0 where
+record Cuts (f : Frame) (words : List ℕ) (x : Place) (c : ℕ) (t : List ℕ) (d : ℕ) : Type 0 where
   pub here : InnerHere f words x
   pub inside : c + 1 ≤ prefixAt (f .form) (recordAt f words x) .full .0
   pub whole : d + prefixAt (f .form) (recordAt f words x) .full .0 ≤ length t
@@ -63,27 +69,57 @@ module _ (f : Frame) (words : List ℕ) (below c : ℕ) (t : List ℕ) (d : ℕ)
   pub cut-leaf : below % 8 ≡ 5 → words ≡ cutAt f (placeAt below) c t d words
   cut-leaf e = sym (ap (λ (b : Bool). cutAt f (named b) c t d words) (eq-eqb (below % 8) 5 e))
 
-  pub cut-inner : (below % 8 ≡ 5 → ⊥) → prefixedAt f (placeAt below) (splitOf (prefixAt (f .form) (recordAt f words (placeAt below))) (c + 1) t d) words ≡ cutAt f (placeAt below) c t d words
-  cut-inner ne = go (eqb (below % 8) 5) (ne-eqb (below % 8) 5 ne)
-    where
-      go : (b : Bool) → b ≡ false → prefixedAt f (named b) (splitOf (prefixAt (f .form) (recordAt f words (named b))) (c + 1) t d) words ≡ cutAt f (named b) c t d words
-      go true e = absurd (true≢false e)
-      go false e = refl
+  module _ (ne : below % 8 ≡ 5 → ⊥) where
+    cut-inner : prefixedAt f (placeAt below) (splitOf (prefixAt (f .form) (recordAt f words (placeAt below))) (c + 1) t d) words ≡ cutAt f (placeAt below) c t d words
+    cut-inner = go (eqb (below % 8) 5) (ne-eqb (below % 8) 5 ne)
+      where
+        go : (b : Bool) → b ≡ false → prefixedAt f (named b) (splitOf (prefixAt (f .form) (recordAt f words (named b))) (c + 1) t d) words ≡ cutAt f (named b) c t d words
+        go true e = absurd (true≢false e)
+        go false e = refl
 
-  pub cut-ready : (below % 8 ≡ 5 → ⊥) → CutOrLeaf f words (placeAt below) c t d → Cuts f words (placeAt below) c t d
-  cut-ready ne = go (eqb (below % 8) 5) (ne-eqb (below % 8) 5 ne)
-    where
-      go : (b : Bool) → b ≡ false → CutOrLeaf f words (named b) c t d → Cuts f words (named b) c t d
-      go true e h = absurd (true≢false e)
-      go false e h = record { here = h .here; inside = h .inside; whole = h .whole }
+    module _ (h : CutOrLeaf f words (placeAt below) c t d) where
+      ready : Cuts f words (placeAt below) c t d
+      ready = go (eqb (below % 8) 5) (ne-eqb (below % 8) 5 ne) h
+        where
+          go : (b : Bool) → b ≡ false → CutOrLeaf f words (named b) c t d → Cuts f words (named b) c t d
+          go true e k = absurd (true≢false e)
+          go false e k = record { here = k .here; inside = k .inside; whole = k .whole }
 
--- ── the branching, with the prefix, the leaf's tag and the words as they were read ──
-pub forked-by : (f : Frame) (words : List ℕ) (below new : ℕ) (tag w t : List ℕ) (d c leaf : ℕ) (p : Prefix) (l m : List ℕ) → p ≡ prefixOf (between tag d (d + c)) → t ≡ w
-    → l ≡ cutAt f (placeAt below) c t d words → m ≡ branchAt f (placeAt new) p (getD tag (d + c) 0) leaf (getD t (d + c) 0) below l → m ≡ forked f below new tag w d c leaf words
-unfolding forked
-forked-by f words below new tag w t d c leaf p l m ep et el em =
-    let b = getD tag (d + c) 0 in
-    em
-    ∙ ap (λ (q : Prefix). branchAt f (placeAt new) q b leaf (getD t (d + c) 0) below l) ep
-    ∙ ap (branchAt f (placeAt new) (prefixOf (between tag d (d + c))) b leaf (getD t (d + c) 0) below) el
-    ∙ ap (λ (u : List ℕ). branchAt f (placeAt new) (prefixOf (between tag d (d + c))) b leaf (getD u (d + c) 0) below (cutAt f (placeAt below) c u d words)) et
+      pub cut-here : InnerHere f words (placeAt below)
+      cut-here = ready .here
+
+      pub cut-place : InnerPlace f (placeAt below)
+      cut-place = here-place (ready .here)
+
+      -- a word can hold what agrees, and one more
+      pub cut-fits : {keys : List ℕ} → FrameOf f words keys → Fits w32 c
+      cut-fits w = omega (arith, ready .inside, prefix-short (ready .here), limit-small w)
+
+      pub cut-fits-one : {keys : List ℕ} → FrameOf f words keys → Fits w32 (c + 1)
+      cut-fits-one w = omega (arith, ready .inside, prefix-short (ready .here), limit-small w)
+
+      -- p is the prefix as it was read, q what is left of it, l the words with that
+      module _ {p : Prefix} (ep : p ≡ prefixAt (f .form) (recordAt f words (placeAt below))) where
+        pub cut-inside : c + 1 ≤ p .full .0
+        cut-inside = omega (arith, ready .inside, ap (λ (q : Prefix). q .full .0) ep)
+
+        pub cut-whole : d + p .full .0 ≤ length t
+        cut-whole = omega (arith, ready .whole, ap (λ (q : Prefix). q .full .0) ep)
+
+        pub cut-eight : length (p .stored) ≡ 8
+        unfolding prefixAt
+        cut-eight = ap (λ (q : Prefix). length (q .stored)) ep ∙ stored-eight (f .form) (recordAt f words (placeAt below))
+
+        module _ {q : Prefix} (eq : q ≡ splitOf p (c + 1) t d) where
+          pub cut-stored : length (q .stored) ≡ 8
+          cut-stored = ap (λ (x : Prefix). length (x .stored)) eq ∙ split-stored p (c + 1) t d
+
+          module _ {l : List ℕ} (el : l ≡ prefixedAt f (placeAt below) q words) where
+            pub cut-made : l ≡ cutAt f (placeAt below) c t d words
+            cut-made =
+                el
+                ∙ ap (λ (x : Prefix). prefixedAt f (placeAt below) x words) (eq ∙ ap (λ (x : Prefix). splitOf x (c + 1) t d) ep)
+                ∙ cut-inner
+
+            pub cut-kept : {keys : List ℕ} → FrameOf f words keys → length l ≡ length words → FrameOf f l keys
+            cut-kept w k = prefixed-kept w l k (placeAt below) (ready .here .pool) q el

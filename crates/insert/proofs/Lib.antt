@@ -17,4 +17,6 @@ pub mod KeyBytes
 pub mod Stops
 pub mod Planning
 pub mod Cuts
+pub mod Made
+pub mod Cases
 pub mod Calls

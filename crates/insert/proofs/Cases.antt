@@ -1,0 +1,60 @@
+-- What each case of a plan and of a site needs, and what it comes to: the plan or the site is what it was found to be.
+use Prim.Native.Nat.{ℕ, _/_, _≤_}
+use mathlib.Core.Path.{_≡_, sym, ap, subst, _∙_}
+use mathlib.Core.List.{List}
+use mathlib.Core.Bool.{true}
+use lib.ListN.{length}
+use Rattle.frames.specs.Frame.{FrameOf}
+use Rattle.frames.specs.Place.{placeAt, inPool}
+use Rattle.frames.specs.declared.frame.Frame.{Frame}
+use Rattle.frames.proofs.Frames.{totals}
+use Rattle.art.specs.Stores.{leaf-place}
+use Rattle.edits.specs.declared.representation.Change.the-variants as change
+use Rattle.points.specs.declared.insert_point.Up.{Up}
+use Rattle.writes.specs.At.{changeAt, Roomy}
+use Rattle.writes.specs.declared.leaf_node.Gap.{Gap}
+use Rattle.writes.proofs.Kept.{change-kept}
+use Rattle.insert.specs.Apply.{ForkReady, GrowReady, NewReady, SiteReady, hung}
+use Rattle.insert.specs.Insert.{Out, planned, PlanReady}
+use Rattle.insert.specs.declared.plan.Plan.{Plan}
+use Rattle.insert.specs.declared.plan.Plan.the-variants.{Over, New}
+use Rattle.insert.specs.declared.plan.Site.{Site}
+use Rattle.insert.specs.declared.plan.Site.the-variants.{Add, Grow, Fork}
+
+-- ── a plan ──
+module _ (f : Frame) (words keys tag : List ℕ) {p : Plan} where
+  pub over-ready : {leaf : ℕ} → p ≡ Over leaf → PlanReady f words keys tag p → inPool f (leaf-place (leaf / 8)) ≡ true
+  over-ready e h = subst (PlanReady f words keys tag) e h
+
+  pub new-ready : {site : Site} {n : ℕ} {gap : Gap} → p ≡ New site n gap → PlanReady f words keys tag p → NewReady f words keys tag site n gap
+  new-ready e h = subst (PlanReady f words keys tag) e h
+
+pub planned-by : (f : Frame) (words keys scratch tag : List ℕ) (total : ℕ) {p q : Plan} {o : Out} → p ≡ q → o ≡ planned f words keys scratch tag total q
+    → o ≡ planned f words keys scratch tag total p
+planned-by f words keys scratch tag total e h = h ∙ sym (ap (planned f words keys scratch tag total) e)
+
+-- ── a site ──
+module _ (f : Frame) (words keys tag : List ℕ) (leaf : ℕ) {site : Site} where
+  pub add-ready : {ref byte : ℕ} → site ≡ Add ref byte → SiteReady f words keys tag site leaf → Roomy f words (placeAt ref)
+  add-ready e h = subst (λ (x : Site). SiteReady f words keys tag x leaf) e h
+
+  pub grow-ready : {up : Up} {old new byte : ℕ} → site ≡ Grow up old new byte → SiteReady f words keys tag site leaf → GrowReady f words up old new byte leaf
+  grow-ready e h = subst (λ (x : Site). SiteReady f words keys tag x leaf) e h
+
+  pub fork-ready : {up : Up} {below new witness d c : ℕ} → site ≡ Fork up below new witness d c → SiteReady f words keys tag site leaf
+      → ForkReady f words keys tag up below new witness d c leaf
+  fork-ready e h = subst (λ (x : Site). SiteReady f words keys tag x leaf) e h
+
+pub hung-by : (f : Frame) (keys tag : List ℕ) (leaf : ℕ) (words : List ℕ) {site x : Site} {o : List ℕ} → site ≡ x → o ≡ hung f keys tag x leaf words
+    → o ≡ hung f keys tag site leaf words
+hung-by f keys tag leaf words e h = h ∙ sym (ap (λ (s : Site). hung f keys tag s leaf words) e)
+
+-- the frame stays where a record takes a child in place
+pub add-kept : (f : Frame) (words keys tag : List ℕ) (leaf : ℕ) {site : Site} {ref byte : ℕ} → site ≡ Add ref byte → SiteReady f words keys tag site leaf
+    → FrameOf f words keys → {o : List ℕ} → o ≡ changeAt f (placeAt ref) byte (change.Add leaf) words → length o ≡ length words → FrameOf f o keys
+add-kept f words keys tag leaf {site} {ref} {byte} e h w {o} eo k =
+    change-kept w o k (placeAt ref) (add-ready f words keys tag leaf e h .here .pool) byte (change.Add leaf) eo
+
+-- the words hold a trailer
+pub words-long : {f : Frame} {words keys : List ℕ} → FrameOf f words keys → 16 ≤ length words
+words-long {f} {words} {keys} w = totals words keys (w .fits) .long
