@@ -1,21 +1,26 @@
--- What each case of a plan and of a site needs, and what it comes to: the plan or the site is what it was found to be.
-use Prim.Native.Nat.{ℕ, _/_, _≤_}
+-- The cases of a plan, of a site and of what the check found: what each needs, and what it comes to.
+use Prim.Native.Nat.{ℕ, _+_, _/_, _≤_}
 use mathlib.Core.Path.{_≡_, sym, ap, subst, _∙_}
 use mathlib.Core.List.{List}
 use mathlib.Core.Bool.{true}
+use native.Mathlib.Omega.{arith}
 use lib.ListN.{length}
-use Rattle.frames.specs.Frame.{FrameOf}
+use Rattle.frames.specs.Frame.{FrameOf, countWord}
 use Rattle.frames.specs.Place.{placeAt, inPool}
 use Rattle.frames.specs.declared.frame.Frame.{Frame}
 use Rattle.frames.proofs.Frames.{totals}
+use Rattle.art.specs.Chain.{leaf-ref}
 use Rattle.art.specs.Stores.{leaf-place}
 use Rattle.edits.specs.declared.representation.Change.the-variants as change
+use Rattle.pools.specs.Link.{setTrailer}
+use Rattle.whole.specs.declared.check.Checked.{Checked}
 use Rattle.points.specs.declared.insert_point.Up.{Up}
 use Rattle.writes.specs.At.{changeAt, Roomy}
+use Rattle.writes.specs.Leaf.{leafIn}
 use Rattle.writes.specs.declared.leaf_node.Gap.{Gap}
 use Rattle.writes.proofs.Kept.{change-kept}
-use Rattle.insert.specs.Apply.{ForkReady, GrowReady, NewReady, SiteReady, hung}
-use Rattle.insert.specs.Insert.{Out, planned, PlanReady}
+use Rattle.insert.specs.Apply.{ForkReady, GrowReady, NewReady, SiteReady, hung, newWords}
+use Rattle.insert.specs.Insert.{Out, planned, PlanReady, insertBy}
 use Rattle.insert.specs.declared.plan.Plan.{Plan}
 use Rattle.insert.specs.declared.plan.Plan.the-variants.{Over, New}
 use Rattle.insert.specs.declared.plan.Site.{Site}
@@ -29,9 +34,15 @@ module _ (f : Frame) (words keys tag : List ℕ) {p : Plan} where
   pub new-ready : {site : Site} {n : ℕ} {gap : Gap} → p ≡ New site n gap → PlanReady f words keys tag p → NewReady f words keys tag site n gap
   new-ready e h = subst (PlanReady f words keys tag) e h
 
+-- carried out as the plan that it was found to be
 pub planned-by : (f : Frame) (words keys scratch tag : List ℕ) (total : ℕ) {p q : Plan} {o : Out} → p ≡ q → o ≡ planned f words keys scratch tag total q
     → o ≡ planned f words keys scratch tag total p
 planned-by f words keys scratch tag total e h = h ∙ sym (ap (planned f words keys scratch tag total) e)
+
+-- ── what the check found ──
+pub insert-as : (words keys scratch tag : List ℕ) (total : ℕ) {c d : Checked} {o : Out} → c ≡ d → o ≡ insertBy words keys scratch tag total d
+    → o ≡ insertBy words keys scratch tag total c
+insert-as words keys scratch tag total e h = h ∙ sym (ap (insertBy words keys scratch tag total) e)
 
 -- ── a site ──
 module _ (f : Frame) (words keys tag : List ℕ) (leaf : ℕ) {site : Site} where
@@ -45,6 +56,7 @@ module _ (f : Frame) (words keys tag : List ℕ) (leaf : ℕ) {site : Site} wher
       → ForkReady f words keys tag up below new witness d c leaf
   fork-ready e h = subst (λ (x : Site). SiteReady f words keys tag x leaf) e h
 
+-- hung as at the site that it was found to be
 pub hung-by : (f : Frame) (keys tag : List ℕ) (leaf : ℕ) (words : List ℕ) {site x : Site} {o : List ℕ} → site ≡ x → o ≡ hung f keys tag x leaf words
     → o ≡ hung f keys tag site leaf words
 hung-by f keys tag leaf words e h = h ∙ sym (ap (λ (s : Site). hung f keys tag s leaf words) e)
@@ -55,6 +67,19 @@ pub add-kept : (f : Frame) (words keys tag : List ℕ) (leaf : ℕ) {site : Site
 add-kept f words keys tag leaf {site} {ref} {byte} e h w {o} eo k =
     change-kept w o k (placeAt ref) (add-ready f words keys tag leaf e h .here .pool) byte (change.Add leaf) eo
 
--- the words hold a trailer
+-- ── all of it ──
+-- the words hold a trailer, before the writes and after them
 pub words-long : {f : Frame} {words keys : List ℕ} → FrameOf f words keys → 16 ≤ length words
 words-long {f} {words} {keys} w = totals words keys (w .fits) .long
+
+pub still-long : {f : Frame} {words keys : List ℕ} → FrameOf f words keys → (out : List ℕ) → length out ≡ length words → 16 ≤ length out
+still-long w out e = omega (arith, words-long w)
+
+-- count is the tag count as it was read, l the words with the tree, m those with the leaf and the list, o those with the new count
+pub new-made : (f : Frame) (keys tag : List ℕ) (total : ℕ) (site : Site) (n : ℕ) (gap : Gap) (words : List ℕ) {count : ℕ} {l m o : List ℕ} → count ≡ countWord words
+    → l ≡ hung f keys tag site (leaf-ref n) words → m ≡ leafIn f n (length tag) (gap .previous) (gap .next) total l → o ≡ setTrailer 14 (count + 1) m
+    → o ≡ newWords f keys tag total site n gap words
+unfolding newWords
+new-made f keys tag total site n gap words {count} {l} {m} ec el em eo =
+    let leaf : List ℕ → List ℕ = leafIn f n (length tag) (gap .previous) (gap .next) total in
+    eo ∙ ap (setTrailer 14 (count + 1)) (em ∙ ap leaf el) ∙ ap (λ (k : ℕ). setTrailer 14 (k + 1) (leaf (hung f keys tag site (leaf-ref n) words))) ec

@@ -24,16 +24,6 @@ use Rattle.insert.specs.Apply.{cutAt, CutOrLeaf, forked, ForkReady, grow
 use Rattle.insert.proofs.Cuts.{run-stored, tag-short}
 
 -- ── a branching: t is the leaf's tag, p the prefix, l the words once what is below is cut, m those with the branching, n those that name it ──
-forked-by : (f : Frame) (words : List ℕ) (below new : ℕ) (tag w t : List ℕ) (d c leaf : ℕ) (p : Prefix) (l m : List ℕ) → p ≡ prefixOf (between tag d (d + c)) → t ≡ w
-    → l ≡ cutAt f (placeAt below) c t d words → m ≡ branchAt f (placeAt new) p (getD tag (d + c) 0) leaf (getD t (d + c) 0) below l → m ≡ forked f below new tag w d c leaf words
-unfolding forked
-forked-by f words below new tag w t d c leaf p l m ep et el em =
-    let b = getD tag (d + c) 0 in
-    em
-    ∙ ap (λ (q : Prefix). branchAt f (placeAt new) q b leaf (getD t (d + c) 0) below l) ep
-    ∙ ap (branchAt f (placeAt new) (prefixOf (between tag d (d + c))) b leaf (getD t (d + c) 0) below) el
-    ∙ ap (λ (u : List ℕ). branchAt f (placeAt new) (prefixOf (between tag d (d + c))) b leaf (getD u (d + c) 0) below (cutAt f (placeAt below) c u d words)) et
-
 pub fork-stored : (run : List ℕ) {p : Prefix} → p ≡ prefixOf run → length (p .stored) ≡ 8
 fork-stored run e = ap (λ (q : Prefix). length (q .stored)) e ∙ run-stored run
 
@@ -56,7 +46,14 @@ module _ {f : Frame} {words keys tag : List ℕ} {up : Up} {below new witness d 
     module _ {p : Prefix} (ep : p ≡ prefixOf (between tag d (d + c))) {l m : List ℕ} (el : l ≡ cutAt f (placeAt below) c t d words)
         (em : m ≡ branchAt f (placeAt new) p (getD tag (d + c) 0) leaf (getD t (d + c) 0) below l) where
       fork-made : m ≡ forked f below new tag (tagAt f words keys witness) d c leaf words
-      fork-made = forked-by f words below new tag (tagAt f words keys witness) t d c leaf p l m ep et el em
+      unfolding forked
+      fork-made =
+          let run = prefixOf (between tag d (d + c)) in
+          let b = getD tag (d + c) 0 in
+          em
+          ∙ ap (λ (q : Prefix). branchAt f (placeAt new) q b leaf (getD t (d + c) 0) below l) ep
+          ∙ ap (branchAt f (placeAt new) run b leaf (getD t (d + c) 0) below) el
+          ∙ ap (λ (u : List ℕ). branchAt f (placeAt new) run b leaf (getD u (d + c) 0) below (cutAt f (placeAt below) c u d words)) et
 
       pub fork-above : UpThere f m up
       fork-above = subst (λ (x : List ℕ). UpThere f x up) (sym fork-made) (r .above)
