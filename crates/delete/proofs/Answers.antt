@@ -104,9 +104,9 @@ module _ {words keys : List ℕ} (s : Sound words keys) (tag : List ℕ) (bytes 
           record { answer = ap deleted.Gone (sym (o .3)) ∙ ap answerOf (sym (o .1)); sound = after .0; holds = after .1; scratch-stays = refl }
 
   -- with scratch enough the whole call does so, and scratch is as the check leaves it
-  pub call-answers : (scratch : List ℕ) → placesIn (frame words) ≤ length scratch → Deletes tag (checkOf words keys scratch .scratch) theirs (deleteOf words keys scratch tag)
+  pub delete-meets : (scratch : List ℕ) → placesIn (frame words) ≤ length scratch → Deletes tag (checkOf words keys scratch .scratch) theirs (deleteOf words keys scratch tag)
   unfolding deleteOf deleteChecked
-  call-answers scratch room = go (checkOf words keys scratch) (sound-zero words keys scratch room s)
+  delete-meets scratch room = go (checkOf words keys scratch) (sound-zero words keys scratch room s)
     where
       go : (c : Answer) → numberOf (c .result) ≡ 0 → Deletes tag (c .scratch) theirs (deleteBy words keys (c .scratch) tag (c .result))
       go c e = by (c .result) e

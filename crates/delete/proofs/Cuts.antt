@@ -27,7 +27,7 @@ use Rattle.art.proofs.Stores.{leaf-inner, write-other, write-write, write-comm,
 use Rattle.art.proofs.InsertPoints.{stays, relink-up-none}
 use Rattle.edits.specs.declared.representation.Change.the-variants.{Remove}
 use Rattle.points.specs.declared.insert_point.Up.{Up}
-use Rattle.points.specs.There.{InnerHere, HasChild, UpThere}
+use Rattle.points.specs.There.{InnerFitsAt, HasChild, UpThere}
 use Rattle.writes.specs.At.{changeAt, Drops}
 use Rattle.writes.specs.Above.{linkUp}
 use Rattle.pointed.specs.Told.{upTold}
@@ -282,7 +282,7 @@ module _ {f : Frame} {words keys : List ℕ} {σ : Store Held} {links : Links} {
         let linked = as-state (up-linked freed-state σ upper x q freed-same (w .above) pool′) edits root′ in
         record {
           ready = record {
-            here = subst (InnerHere f words) (sym place) (has-child .here);
+            here = subst (InnerFitsAt f words) (sym place) (has-child .here);
             child-ready = joined c q left .1;
             low = state-byte s (ref % 8) (ref / 8) len st rs c q (w .shown) (one .found);
             above = subst (λ (p : Place). UpThere f (merged f p q c words) upper) (sym place) (up-there freed-state σ upper x freed-same (w .above));

@@ -14,7 +14,7 @@ use Rattle.frames.specs.Place.{placeAt, recordAt}
 use Rattle.frames.specs.declared.frame.Frame.{Frame}
 use Rattle.records.specs.Own.{prefixAt}
 use Rattle.art.specs.Stores.{Place, leaf-place, inner-place}
-use Rattle.points.specs.There.{InnerHere}
+use Rattle.points.specs.There.{InnerFitsAt}
 use Rattle.writes.specs.At.{prefixedAt}
 use Rattle.delete.specs.Apply.{joinedAt, JoinReady}
 
@@ -27,10 +27,10 @@ module _ (f : Frame) (words : List ℕ) (child : ℕ) where
   abbrev named : Bool → Place
   named b = choose b (leaf-place (child / 8)) (inner-place (child % 8) (child / 8))
 
-  pub combined-here : (child % 8 ≡ 5 → ⊥) → JoinReady f words (placeAt child) → InnerHere f words (placeAt child)
+  pub combined-here : (child % 8 ≡ 5 → ⊥) → JoinReady f words (placeAt child) → InnerFitsAt f words (placeAt child)
   combined-here ne = go (eqb (child % 8) 5) (ne-eqb (child % 8) 5 ne)
     where
-      go : (b : Bool) → b ≡ false → JoinReady f words (named b) → InnerHere f words (named b)
+      go : (b : Bool) → b ≡ false → JoinReady f words (named b) → InnerFitsAt f words (named b)
       go true e h = absurd (true≢false e)
       go false e h = h
 

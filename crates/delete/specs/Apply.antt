@@ -12,7 +12,7 @@ use Rattle.art.specs.Stores.{Place, leaf-place, inner-place}
 use Rattle.edits.specs.declared.representation.Change.the-variants.{Remove}
 use Rattle.pools.specs.Link.{LeafOrEnd, setTrailer}
 use Rattle.points.specs.declared.insert_point.Up.{Up}
-use Rattle.points.specs.There.{InnerHere, HasChild, UpThere}
+use Rattle.points.specs.There.{InnerFitsAt, HasChild, UpThere}
 use Rattle.writes.specs.At.{changeAt, prefixedAt, dropAt, clearAt, Drops}
 use Rattle.writes.specs.Leaf.{leafOut}
 use Rattle.writes.specs.Above.{linkUp}
@@ -51,11 +51,11 @@ goneWords f cut n gap words = setTrailer 14 (countWord words - 1) (leafOut f n (
 -- a leaf, or a record that obeys its rule
 abbrev pub JoinReady : Frame → List ℕ → Place → Type 0
 JoinReady f words (leaf-place n) = Unit {0}
-JoinReady f words (inner-place k n) = InnerHere f words (inner-place k n)
+JoinReady f words (inner-place k n) = InnerFitsAt f words (inner-place k n)
 
 -- for a merge: the record obeys its rule, the child is a leaf or obeys its own, its byte is below 256, and the record above has a child for its byte where it is written
 pub record MergeReady (f : Frame) (words : List ℕ) (upper : Up) (ref child byte : ℕ) : Type 0 where
-  pub here : InnerHere f words (placeAt ref)
+  pub here : InnerFitsAt f words (placeAt ref)
   pub child-ready : JoinReady f words (placeAt child)
   pub low : byte < 256
   pub above : UpThere f (merged f (placeAt ref) (placeAt child) byte words) upper

@@ -3,7 +3,7 @@ ghost use mathlib.Core.Path.{_≡_};
 ghost use Prim.Native.Nat.{_<_};
 ghost use Rattle.frames.specs.Frame.{FrameOf};
 ghost use Rattle.frames.specs.Place.{placeAt};
-ghost use Rattle.points.specs.There.{InnerHere};
+ghost use Rattle.points.specs.There.{InnerFitsAt};
 ghost use Rattle.writes.specs.Leaf.{keyOut};
 ghost use Rattle.writes.specs.Above.{linkUp};
 ghost use Rattle.delete.specs.Apply.{joinedAt, JoinReady, merged, MergeReady, shrunk, ShrinkReady, pruned, CutReady, goneWords, TakeReady};
@@ -21,7 +21,7 @@ use writes::representation;
 
 // The one child left takes over the record's prefix and the byte to it; a leaf has no prefix.
 fn join_at(words: &mut [u32], keys: &[u8], f: Frame, reference: u32, child: u32, byte: u32)
-    requires { ⌜ FrameOf f (now words) (now keys) × (InnerHere f (now words) (placeAt reference) × (JoinReady f (now words) (placeAt child) × (byte < 256))) ⌝ }
+    requires { ⌜ FrameOf f (now words) (now keys) × (InnerFitsAt f (now words) (placeAt reference) × (JoinReady f (now words) (placeAt child) × (byte < 256))) ⌝ }
     ensures { λ _. ⌜ (now (words .exit) ≡ joinedAt f (placeAt reference) (placeAt child) byte (now (words .entry))) × FrameOf f (now (words .exit)) (now (keys .entry)) ⌝ }
 {
     if child % 8 == frame::LEAF {

@@ -7,7 +7,7 @@ ghost use Rattle.frames.specs.Place.{placeAt, inPool, recordAt};
 ghost use Rattle.records.specs.Own.{InnerFits};
 ghost use Rattle.records.specs.Row.{rowAt};
 ghost use Rattle.art.specs.Stores.{leaf-place};
-ghost use Rattle.points.specs.There.{InnerHere, UpThere, PointThere};
+ghost use Rattle.points.specs.There.{InnerFitsAt, UpThere, PointThere};
 ghost use Rattle.delete.specs.Plan.{otherEntry, mergeCut, shrinkCut, cutUnder, cutOf, gapOf, pointPlan, planOf};
 use frames::form::Form;
 use frames::frame;
@@ -55,7 +55,7 @@ fn other_entry(form: Form, rec: &[u32], kind: u32, byte: u8) -> Entry
 
 // One child left: it takes the record's place.
 fn merge_cut(words: &[u32], keys: &[u8], f: Frame, upper: Up, reference: u32, byte: u8) -> Cut
-    requires { ⌜ FrameOf f (now words) (now keys) × InnerHere f (now words) (placeAt reference) ⌝ }
+    requires { ⌜ FrameOf f (now words) (now keys) × InnerFitsAt f (now words) (placeAt reference) ⌝ }
     ensures { λ r. ⌜ r ≡ mergeCut upper reference byte (otherEntry byte (rowAt (f .form) (reference % 8) (recordAt f (now (words .entry)) (placeAt reference)))) ⌝ }
 {
     let rec = places::inner_at(words, keys, f, reference);
@@ -83,7 +83,7 @@ fn shrink_cut(words: &[u32], keys: &[u8], f: Frame, upper: Up, reference: u32, b
 
 // The record above the leaf, by how many children it has.
 fn cut_under(words: &[u32], keys: &[u8], f: Frame, upper: Up, reference: u32, byte: u8) -> Cut
-    requires { ⌜ FrameOf f (now words) (now keys) × InnerHere f (now words) (placeAt reference) ⌝ }
+    requires { ⌜ FrameOf f (now words) (now keys) × InnerFitsAt f (now words) (placeAt reference) ⌝ }
     ensures { λ r. ⌜ r ≡ cutUnder f (now (words .entry)) upper reference byte ⌝ }
 {
     let n = places::children_at(words, keys, f, reference);

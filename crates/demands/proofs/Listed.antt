@@ -5,12 +5,12 @@ use Rattle.leaves.specs.Leaf.{nextLeafOf, factsOf, tagOf}
 use Rattle.whole.specs.Sound.{Sound}
 use Rattle.insert.specs.declared.answer.Inserted.the-variants as inserted
 use Rattle.range.specs.Range.{afterOf}
-use Rattle.delete.proofs.Answers.{call-answers}
+use Rattle.delete.proofs.Answers.{delete-meets}
 use Rattle.demands.specs.Calls as calls
 use Rattle.demands.specs.Calls.{Call, Slices, run}
 use Rattle.demands.specs.Histories.{Block, Turn, lent, answered, CallBytes}
 use Rattle.demands.specs.Listed.{Suffices, Listed}
-use Rattle.demands.proofs.Numbers.{after-passed}
+use Rattle.demands.proofs.Numbers.{after-meets}
 use Rattle.demands.proofs.Reading.{sound-reads}
 use Rattle.demands.proofs.Tested.{check-passed, insert-too-long}
 use Rattle.demands.proofs.Inserted.{inserts-listed}
@@ -29,9 +29,9 @@ listed-by s z (calls.query (calls.leaf-facts n)) b r =
 listed-by s z (calls.query (calls.leaf-tag n)) b r =
     (λ e i j. ap (λ (m : ℕ). calls.tag (tagOf (s .words) (s .keys) m)) (sym j) ∙ ap calls.tag (sound-reads z .leaf-tag e i), λ h. ap calls.tag (sound-reads z .tag-free n h))
 listed-by s z (calls.ask calls.check) b r = ap calls.checked (check-passed s (record { room = r; sound = z }))
-listed-by s z (calls.ask (calls.first-at-or-after t)) b r = ap calls.after (after-passed s t (record { room = r; sound = z }))
+listed-by s z (calls.ask (calls.first-at-or-after t)) b r = ap calls.after (after-meets s t (record { room = r; sound = z }))
 listed-by s z (calls.edit (calls.insert t total)) b r = (λ h. ap calls.inserted (insert-too-long s t total h), λ h. (_, refl, inserts-listed s t total b h (record { room = r; sound = z })))
-listed-by s z (calls.edit (calls.delete t)) b r = ap calls.deleted (call-answers z t b (s .scratch) r .answer)
+listed-by s z (calls.edit (calls.delete t)) b r = ap calls.deleted (delete-meets z t b (s .scratch) r .answer)
 
 -- demand 2: on every sound block, with scratch enough, each call answers as the sorted list of what the block holds
 pub sound-listed : (b : Block) (s : Sound (b .words) (b .keys)) (t : Turn) → CallBytes (t .call) → Suffices (t .call) (lent b t) → Listed s (t .call) (answered b t)

@@ -142,8 +142,8 @@ unfolding afterOf
 after-by s t c e = ap (afterCheck (s .words) (s .keys) t) e
 
 -- on a sound block it answers as the sorted list
-pub after-passed : (s : Slices) (t : Tag) (p : Passed s) → afterOf (s .words) (s .keys) (s .scratch) t .result ≡ afterIs (after t (holds (p .sound)))
-after-passed s t p = after-by s t checked.Sound (check-passed s p) ∙ after-shown (sound-shown (p .sound)) t
+pub after-meets : (s : Slices) (t : Tag) (p : Passed s) → afterOf (s .words) (s .keys) (s .scratch) t .result ≡ afterIs (after t (holds (p .sound)))
+after-meets s t p = after-by s t checked.Sound (check-passed s p) ∙ after-shown (sound-shown (p .sound)) t
 
 -- ── delete, by its plan ──
 module _ (s : Slices) (t : Tag) (bytes : Bytes t) (p : Passed s) where
@@ -252,8 +252,8 @@ due-number b (due.next-end {n} {s} u r e) = ap some (next-end s n u r e)
 due-number b (due.next-done {n} {s} u r ne e) = ap some (next-names s n u r ne true e)
 due-number b (due.facts-done {n} {s} u r) = ap (λ (a : Facts). some (factsNumber a)) (facts-by s n (u .fits) _ (good-state s n u r))
 due-number b (due.check-sound {s} p) = ap (λ (a : Checked). some (check-call.numberOf a)) (check-passed s p)
-due-number b (due.after-missing {t} {s} p e) = ap (λ (a : After). some (after-call.numberOf a)) (after-passed s t p ∙ ap afterIs e)
-due-number b (due.after-found {t} {s} p h e) = ap (λ (a : After). some (after-call.numberOf a)) (after-passed s t p ∙ ap afterIs e)
+due-number b (due.after-missing {t} {s} p e) = ap (λ (a : After). some (after-call.numberOf a)) (after-meets s t p ∙ ap afterIs e)
+due-number b (due.after-found {t} {s} p h e) = ap (λ (a : After). some (after-call.numberOf a)) (after-meets s t p ∙ ap afterIs e)
 due-number b (due.insert-long {t} {total} {s} l) = ap (λ (a : Inserted). some (insert-answer.numberOf a)) (insert-too-long s t total l)
 due-number b (due.insert-over {t} {total} {s} l p e) = ap some (over-number s t total b l p e)
 due-number b (due.insert-clash {t} {total} {s} l p e) = ap (λ (a : Inserted). some (insert-answer.numberOf a)) (inserts-listed s t total b l p .clashes e)

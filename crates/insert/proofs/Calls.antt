@@ -133,10 +133,6 @@ module _ (f : Frame) (words keys scratch tag : List ℕ) (total : ℕ) where
       ∙ ap (λ (g : Frame). call.planned g words keys scratch tag total (planOf g words keys tag)) (w .read)
 
 -- ── the call ──
--- the test found that the tag is not too long
-pub call-short : {b : Bool} (words keys tag : List ℕ) → b ≡ call.tooLong words keys tag → b ≡ false → call.tooLong words keys tag ≡ false
-call-short words keys tag e h = sym e ∙ h
-
 module _ (words keys scratch tag : List ℕ) (total : ℕ) where
   abbrev by-length : Bool → call.Out
   by-length b = choose b (call.out inserted.TooLong words keys scratch) (call.insertChecked words keys tag total (check.checkOf words keys scratch))

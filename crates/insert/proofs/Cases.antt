@@ -76,10 +76,10 @@ pub still-long : {f : Frame} {words keys : List ℕ} → FrameOf f words keys �
 still-long w out e = omega (arith, words-long w)
 
 -- count is the tag count as it was read, l the words with the tree, m those with the leaf and the list, o those with the new count
-pub new-made : (f : Frame) (keys tag : List ℕ) (total : ℕ) (site : Site) (n : ℕ) (gap : Gap) (words : List ℕ) {count : ℕ} {l m o : List ℕ} → count ≡ countWord words
-    → l ≡ hung f keys tag site (leaf-ref n) words → m ≡ leafIn f n (length tag) (gap .previous) (gap .next) total l → o ≡ setTrailer 14 (count + 1) m
+pub new-made : (f : Frame) (keys tag : List ℕ) (total : ℕ) (site : Site) (n : ℕ) (gap : Gap) (words : List ℕ) {count ref : ℕ} {l m o : List ℕ} → count ≡ countWord words → ref ≡ leaf-ref n
+    → l ≡ hung f keys tag site ref words → m ≡ leafIn f n (length tag) (gap .previous) (gap .next) total l → o ≡ setTrailer 14 (count + 1) m
     → o ≡ newWords f keys tag total site n gap words
 unfolding newWords
-new-made f keys tag total site n gap words {count} {l} {m} ec el em eo =
+new-made f keys tag total site n gap words {count} {ref} {l} {m} ec er el em eo =
     let leaf : List ℕ → List ℕ = leafIn f n (length tag) (gap .previous) (gap .next) total in
-    eo ∙ ap (setTrailer 14 (count + 1)) (em ∙ ap leaf el) ∙ ap (λ (k : ℕ). setTrailer 14 (k + 1) (leaf (hung f keys tag site (leaf-ref n) words))) ec
+    eo ∙ ap (setTrailer 14 (count + 1)) (em ∙ ap leaf (el ∙ ap (λ (k : ℕ). hung f keys tag site k words) er)) ∙ ap (λ (k : ℕ). setTrailer 14 (k + 1) (leaf (hung f keys tag site (leaf-ref n) words))) ec

@@ -23,8 +23,8 @@ use Rattle.frames.proofs.Places.{inner-kind, key-length}
 use Rattle.records.specs.Own.{prefixAt}
 use Rattle.art.specs.Stores.{Place, leaf-place, inner-place}
 use Rattle.whole.specs.Witness.{lengthAt, tagAt, LeafSeen}
-use Rattle.points.specs.There.{InnerHere}
-use Rattle.writes.specs.At.{InnerPlace, prefixedAt}
+use Rattle.points.specs.There.{InnerFitsAt}
+use Rattle.writes.specs.At.{InnerPoolAt, prefixedAt}
 use Rattle.writes.proofs.Spots.{here-place, prefix-short}
 use Rattle.writes.proofs.Kept.{prefixed-kept}
 use Rattle.insert.specs.Apply.{cutAt, CutOrLeaf}
@@ -58,7 +58,7 @@ pool-some {f} w ref h = go (eqb (ref % 8) 5) refl h
 -- ── by the kind of what is below ──
 -- a record whose prefix is longer than what agrees of it
 record Cuts (f : Frame) (words : List ℕ) (x : Place) (c : ℕ) (t : List ℕ) (d : ℕ) : Type 0 where
-  pub here : InnerHere f words x
+  pub here : InnerFitsAt f words x
   pub inside : c + 1 ≤ prefixAt (f .form) (recordAt f words x) .full .0
   pub whole : d + prefixAt (f .form) (recordAt f words x) .full .0 ≤ length t
 
@@ -85,10 +85,10 @@ module _ (f : Frame) (words : List ℕ) (below c : ℕ) (t : List ℕ) (d : ℕ)
           go true e k = absurd (true≢false e)
           go false e k = record { here = k .here; inside = k .inside; whole = k .whole }
 
-      pub cut-here : InnerHere f words (placeAt below)
+      pub cut-here : InnerFitsAt f words (placeAt below)
       cut-here = ready .here
 
-      pub cut-place : InnerPlace f (placeAt below)
+      pub cut-place : InnerPoolAt f (placeAt below)
       cut-place = here-place (ready .here)
 
       -- a word can hold what agrees, and one more

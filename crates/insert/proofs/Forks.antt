@@ -32,7 +32,7 @@ use Rattle.view.specs.Pools.{FreeAt}
 use Rattle.whole.specs.Witness.{lengthAt, tagAt}
 use Rattle.points.specs.There.{ForkThere}
 use Rattle.points.specs.declared.insert_point.Up.{Up}
-use Rattle.writes.specs.At.{branchAt, InnerPlace}
+use Rattle.writes.specs.At.{branchAt, InnerPoolAt}
 use Rattle.writes.specs.Above.{linkUp}
 use Rattle.states.specs.State.{State}
 use Rattle.states.proofs.Steps.{state-here, state-prefix-is, state-prefix-fits, state-leaf, state-zero, state-prefix, state-branch}
@@ -212,7 +212,7 @@ module _ {f : Frame} {words keys : List ℕ} {σ : Store Held} {links : Links} {
     parts = differ;
     below-pool = there .pool;
     cut = cut-ready s (leaf / 8) d c t fork-tag y run;
-    to = subst (InnerPlace f) (sym new-place) (record { pool = free .pool; low = new-kinds .0; high = new-kinds .1 });
+    to = subst (InnerPoolAt f) (sym new-place) (record { pool = free .pool; low = new-kinds .0; high = new-kinds .1 });
     above = up-there branch-state σ up y above-same (fits .above);
   }
 

@@ -22,7 +22,7 @@ use Rattle.art.specs.Points.{cell-refs, ChildAt, IntoFits}
 use Rattle.art.proofs.Stores.{used-not, write-same, write-write, write-comm}
 use Rattle.edits.specs.declared.representation.Change.the-variants.{Add}
 use Rattle.view.specs.Pools.{FreeAt}
-use Rattle.points.specs.There.{InnerHere, UpThere}
+use Rattle.points.specs.There.{InnerFitsAt, UpThere}
 use Rattle.points.specs.declared.insert_point.Up.{Up}
 use Rattle.writes.specs.At.{changeAt, moveAt, Roomy, Moves}
 use Rattle.writes.specs.Above.{linkUp}
@@ -70,7 +70,7 @@ module _ {f : Frame} {words keys : List ℕ} {σ : Store Held} {links : Links} {
   pub into-place : placeAt ref ≡ x
   into-place = inner-here s ref into-used
 
-  into-here : InnerHere f words x
+  into-here : InnerFitsAt f words x
   into-here = state-here s (ref % 8) (ref / 8) len st rs (fits .record-at .shown)
 
   into-count : getD (recordAt f words x) 1 0 ≡ length rs

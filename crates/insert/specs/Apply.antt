@@ -17,8 +17,8 @@ use Rattle.edits.specs.declared.representation.Change.the-variants as change
 use Rattle.pools.specs.Link.{LeafOrEnd, setTrailer}
 use Rattle.whole.specs.Witness.{tagAt, LeafSeen}
 use Rattle.points.specs.declared.insert_point.Up.{Up}
-use Rattle.points.specs.There.{InnerHere, UpThere}
-use Rattle.writes.specs.At.{changeAt, prefixedAt, branchAt, moveAt, clearAt, Roomy, InnerPlace, Moves}
+use Rattle.points.specs.There.{InnerFitsAt, UpThere}
+use Rattle.writes.specs.At.{changeAt, prefixedAt, branchAt, moveAt, clearAt, Roomy, InnerPoolAt, Moves}
 use Rattle.writes.specs.Leaf.{leafIn}
 use Rattle.writes.specs.Above.{linkUp}
 use Rattle.insert.specs.declared.plan.Site.{Site}
@@ -57,7 +57,7 @@ newWords f keys tag total site n gap words =
 -- ── what must hold ──
 -- a record that obeys its rule, with a prefix longer than the c bytes that agree of it; the tag t is long enough for all of it from depth d on
 pub record CutReady (f : Frame) (words : List ℕ) (k n c : ℕ) (t : List ℕ) (d : ℕ) : Type 0 where
-  pub here : InnerHere f words (inner-place k n)
+  pub here : InnerFitsAt f words (inner-place k n)
   pub inside : c + 1 ≤ prefixAt (f .form) (recordAt f words (inner-place k n)) .full .0
   pub whole : d + prefixAt (f .form) (recordAt f words (inner-place k n)) .full .0 ≤ length t
 
@@ -74,7 +74,7 @@ pub record ForkReady (f : Frame) (words keys tag : List ℕ) (up : Up) (below ne
   pub parts : getD tag (d + c) 0 ≢ getD (tagAt f words keys witness) (d + c) 0
   pub below-pool : inPool f (placeAt below) ≡ true
   pub cut : CutOrLeaf f words (placeAt below) c (tagAt f words keys witness) d
-  pub to : InnerPlace f (placeAt new)
+  pub to : InnerPoolAt f (placeAt new)
   pub above : UpThere f (forked f below new tag (tagAt f words keys witness) d c leaf words) up
 
 -- a move into a record with room for one child more; the record above has its child

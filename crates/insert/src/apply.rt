@@ -111,7 +111,8 @@ pub fn apply_new(
     ensures { λ _. ⌜ (now (words .exit) ≡ newWords f (now (keys .entry)) (now (tag .entry)) total site n gap (now (words .entry))) × (now (keys .exit) ≡ keyIn f n (now (tag .entry)) (now (keys .entry))) ⌝ }
 {
     let count = frame::trailer_word(words, frame::TAGS) + 1;
-    hang(words, keys, f, tag, site, n * 8 + frame::LEAF);
+    let leaf = frame::reference_to(frame::LEAF, n as usize);
+    hang(words, keys, f, tag, site, leaf);
     leaf_node::leaf_in(words, keys, f, n, tag, gap, total);
     links::set_trailer(words, frame::TAGS, count);
 }

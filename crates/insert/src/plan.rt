@@ -9,7 +9,7 @@ ghost use Rattle.frames.specs.Place.{placeAt, inPool, recordAt};
 ghost use Rattle.records.specs.Words.{childCount};
 ghost use Rattle.art.specs.Stores.{leaf-place};
 ghost use Rattle.range.specs.Range.{afterFirst};
-ghost use Rattle.points.specs.There.{InnerHere, PointThere};
+ghost use Rattle.points.specs.There.{InnerFitsAt, PointThere};
 ghost use Rattle.insert.specs.Plan.{intoChoice, forkChoice, gapAt, gapEnd, newPlan, sitePlan, leafPlan, pointPlan, planOf};
 use frames::frame;
 use frames::frame::Frame;
@@ -51,7 +51,7 @@ pub enum Plan {
 
 // Whether a record has room for a child.
 fn has_room(words: &[u32], keys: &[u8], f: Frame, reference: u32) -> bool
-    requires { ⌜ FrameOf f (now words) (now keys) × InnerHere f (now words) (placeAt reference) ⌝ }
+    requires { ⌜ FrameOf f (now words) (now keys) × InnerFitsAt f (now words) (placeAt reference) ⌝ }
     ensures { λ r. ⌜ r ≡ ltb (childCount (recordAt f (now (words .entry)) (placeAt reference))) (childrenOf (reference % 8)) ⌝ }
 {
     let row = kind::row_of(reference % 8);
@@ -60,7 +60,7 @@ fn has_room(words: &[u32], keys: &[u8], f: Frame, reference: u32) -> bool
 
 // A child more for a record: in place, or in a larger record.
 fn into_choice(words: &[u32], keys: &[u8], f: Frame, up: Up, reference: u32, byte: u8) -> Choice
-    requires { ⌜ FrameOf f (now words) (now keys) × InnerHere f (now words) (placeAt reference) ⌝ }
+    requires { ⌜ FrameOf f (now words) (now keys) × InnerFitsAt f (now words) (placeAt reference) ⌝ }
     ensures { λ r. ⌜ r ≡ intoChoice f (now (words .entry)) up reference byte ⌝ }
 {
     if has_room(words, keys, f, reference) {
@@ -99,7 +99,7 @@ fn gap_at(words: &[u32], keys: &[u8], f: Frame, n: u32) -> Gap
     requires { ⌜ FrameOf f (now words) (now keys) × (inPool f (leaf-place n) ≡ true) ⌝ }
     ensures { λ r. ⌜ r ≡ gapAt f (now (words .entry)) n ⌝ }
 {
-    let next = n * 8 + frame::LEAF;
+    let next = frame::reference_to(frame::LEAF, n as usize);
     Gap {
         previous: leaf_node::previous(places::leaf_at(words, keys, f, n)),
         next: next,

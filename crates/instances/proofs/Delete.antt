@@ -33,7 +33,7 @@ use Rattle.delete.proofs.Calls.{plan-ready}
 use Rattle.delete.proofs.Sounds.{delete-sound, delete-without}
 use Rattle.delete.specs.Meets.{Deletes}
 use Rattle.delete.specs.Without.{Goes, stays, shrinks, crowded, Without, WithoutFrom}
-use Rattle.delete.proofs.Answers.{never-broken, missing-held, held-missing, call-answers}
+use Rattle.delete.proofs.Answers.{never-broken, missing-held, held-missing, delete-meets}
 use Rattle.instances.specs.Opened.{opened}
 use Rattle.instances.specs.Blocks.{bare, spare, two, room, three, full, wide, cramped, cramped-less, long, parted, triple, quintuple, A, B, C, D, E, J1, J2, AX, entry, Holds, gap}
 use Rattle.instances.proofs.Sounds.{spare-sound, three-sound, wide-sound, cramped-sound, parted-sound, spare-holds, two-holds, three-holds, wide-holds, parted-holds, three-tree, wide-tree, cramped-tree}
@@ -175,4 +175,4 @@ B-gone : Deletes B (replicate 3 0) (entry A 0 7 ∷ entry B 1 8 ∷ []) (out (de
 unfolding opened
 B-gone =
     subst (λ (l : Listing Held). Deletes B (replicate 3 0) l (out (deleted.Gone 8) (spare .words) (spare .keys) (replicate 3 0))) two-holds
-    (call-answers two-sound B (tag-bytes B refl) (replicate 3 1) (omega arith))
+    (delete-meets two-sound B (tag-bytes B refl) (replicate 3 1) (omega arith))

@@ -43,7 +43,7 @@ use Rattle.demands.proofs.Refusals.{refused-same, scratch-left}
 use Rattle.demands.proofs.Told.{refused-told}
 use Rattle.demands.specs.Frames.{FrameKept}
 use Rattle.demands.proofs.Frames.{frame-kept, frames-kept, kept-frame, kept-fits}
-use Rattle.demands.proofs.Numbers.{after-passed}
+use Rattle.demands.proofs.Numbers.{after-meets}
 use Rattle.demands.proofs.Steps.{step-sound}
 use Rattle.demands.proofs.KeyBytes.{step-bytes}
 use Rattle.demands.proofs.Histories.{drawing-is}
@@ -146,7 +146,7 @@ A-gone =
 -- the first at or after AB is B
 AB-after : afterOf two-words two-keys (replicate 3 1) AB .result ≡ after-variants.Leaf 1 8
 unfolding opened
-AB-after = after-passed (lend two 3) AB two-passed ∙ ap (λ (l : Listing Held). afterIs (after AB l)) two-holds
+AB-after = after-meets (lend two 3) AB two-passed ∙ ap (λ (l : Listing Held). afterIs (after AB l)) two-holds
 
 -- putting C in leaves a sound block with C
 put-sound : (s : Sound (three .words) (three .keys)) × (totals (held (s .tree)) ≡ (A, 7) ∷ (B, 8) ∷ (C, 9) ∷ [])

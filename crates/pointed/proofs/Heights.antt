@@ -9,7 +9,7 @@ use Rattle.art.specs.Trees.{Tree}
 use Rattle.art.specs.Facts.{height}
 use Rattle.reading.specs.Shown.{Shown}
 use Rattle.reading.proofs.Entries.{few-inner}
-use Rattle.whole.proofs.Turning.{limit-small}
+use Rattle.frames.proofs.Frames.{limit-small}
 
 -- one number of records is above the height of every tree that a block shows
 pub shown-height : {f : Frame} {words keys : List ℕ} {t : Tree Held} → Shown f words keys (some t) → height t < 129

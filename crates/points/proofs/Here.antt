@@ -7,8 +7,6 @@ use native.Mathlib.Omega.{arith}
 use lib.ListN.{length, getD}
 use lib.Dec.{eqb}
 use borrow.Author.Tests.{eqb-true, ltb-true}
-use mir.Syntax.{w32}
-use mir.Val.{Fits}
 use Rattle.lists.specs.Scan.{choose}
 use Rattle.lists.specs.Part.{between}
 use Rattle.frames.specs.Form.{recordWords}
@@ -20,7 +18,7 @@ use Rattle.frames.proofs.Places.{ref-leaf, place-room}
 use Rattle.records.specs.Own.{InnerFits}
 use Rattle.art.specs.Stores.{leaf-place, inner-place}
 use Rattle.tree.proofs.Arrivals.{inner-named}
-use Rattle.points.specs.There.{InnerHere}
+use Rattle.points.specs.There.{InnerFitsAt}
 
 pub place-kind : (ref : ℕ) → kindAt (placeAt ref) ≡ ref % 8
 place-kind ref = go (eqb (ref % 8) 5) refl
@@ -29,7 +27,7 @@ place-kind ref = go (eqb (ref % 8) 5) refl
     go true e = omega (arith, eqb-true (ref % 8) 5 e)
     go false e = refl
 
-module _ {f : Frame} {words : List ℕ} (ref : ℕ) (h : InnerHere f words (placeAt ref)) where
+module _ {f : Frame} {words : List ℕ} (ref : ℕ) (h : InnerFitsAt f words (placeAt ref)) where
   pub here-kind : (1 ≤ ref % 8) × (ref % 8 ≤ 4)
   here-kind = (omega (arith, place-kind ref, h .fits .low), omega (arith, place-kind ref, h .fits .high))
 
@@ -54,13 +52,6 @@ module _ {f : Frame} {words : List ℕ} (ref : ℕ) (h : InnerHere f words (plac
 module _ {f : Frame} {words keys : List ℕ} (w : FrameOf f words keys) (n : ℕ) (p : inPool f (leaf-place n) ≡ true) where
   pub leaf-small : n ≤ 4096
   leaf-small = omega (arith, ltb-true n (getD (f .caps) 5 0) p, caps-most (framed w) 5 (omega arith))
-
-  -- a word can hold eight times its number, and the reference to it
-  pub eights-fit : Fits w32 (n * 8)
-  eights-fit = omega (arith, leaf-small)
-
-  pub leaf-ref-fits : Fits w32 (n * 8 + 5)
-  leaf-ref-fits = omega (arith, leaf-small)
 
   module _ {ref : ℕ} (e : ref ≡ n * 8 + 5) where
     pub leaf-names : placeAt ref ≡ leaf-place n

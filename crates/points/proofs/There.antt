@@ -28,7 +28,7 @@ use Rattle.whole.specs.Witness.{tagAt, LeafSeen}
 use Rattle.whole.proofs.Turning.{leaf-arrived}
 use Rattle.whole.proofs.Witnesses.{seen-pool}
 use Rattle.points.specs.Point.{leafPoint, lowestOf, leafRef, runOf, forkPoint, childStep, runStep, innerStep, stepFrom, stepOf, endedOf, pointFrom, pointOf}
-use Rattle.points.specs.There.{InnerHere, HasChild, UpThere, PointThere}
+use Rattle.points.specs.There.{InnerFitsAt, HasChild, UpThere, PointThere}
 use Rattle.points.specs.declared.insert_point.Up.{Up}
 use Rattle.points.specs.declared.insert_point.Up.the-variants.{Top, Via}
 use Rattle.points.specs.declared.insert_point.Point.the-variants.{Holds, Clash, Into, Fork, Broken}
@@ -103,7 +103,7 @@ module _ {f : Frame} {words keys : List ℕ} (w : FrameOf f words keys) (tag : L
       here-too : (P : ℕ → List ℕ → Type 0) → P k rec → P (kindAt (placeAt ref)) (recordAt f words (placeAt ref))
       here-too P h = subst (λ (j : ℕ). P j (recordAt f words (placeAt ref))) (m .kind) (subst (P k) (m .words-are) h)
 
-      here : InnerHere f words (placeAt ref)
+      here : InnerFitsAt f words (placeAt ref)
       here = record { pool = m .pool; fits = here-too (λ j r. InnerFits (f .form) j r) fits }
 
       child-stands : (byte e : ℕ) → StepThere ref (childStep up ref byte (childAt (f .form) k rec byte) e)

@@ -15,13 +15,13 @@ use Rattle.points.specs.declared.insert_point.Point.{Point}
 use Rattle.points.specs.declared.insert_point.Point.the-variants.{Holds, Clash, Into, Fork, Broken}
 
 -- a pool has the inner record, and it obeys its rule
-pub record InnerHere (f : Frame) (words : List ℕ) (x : Place) : Type 0 where
+pub record InnerFitsAt (f : Frame) (words : List ℕ) (x : Place) : Type 0 where
   pub pool : inPool f x ≡ true
   pub fits : InnerFits (f .form) (kindAt x) (recordAt f words x)
 
 -- it has a child for the byte
 pub record HasChild (f : Frame) (words : List ℕ) (x : Place) (byte : ℕ) : Type 0 where
-  pub here : InnerHere f words x
+  pub here : InnerFitsAt f words x
   pub child : 0 < childAt (f .form) (kindAt x) (recordAt f words x) byte
 
 -- the record above has a child for the byte
@@ -37,7 +37,7 @@ pub record HoldsThere (f : Frame) (words keys : List ℕ) (upper up : Up) (leaf 
 
 -- the record that has no child for the byte, and the record above it
 pub record IntoThere (f : Frame) (words : List ℕ) (up : Up) (ref : ℕ) : Type 0 where
-  pub here : InnerHere f words (placeAt ref)
+  pub here : InnerFitsAt f words (placeAt ref)
   pub above : UpThere f words up
 
 -- the place that a new branching goes above, the leaf, and the record above; the tag goes on past the bytes that agree

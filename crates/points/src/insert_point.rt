@@ -8,7 +8,7 @@ ghost use Rattle.lists.specs.Part.{between};
 ghost use Rattle.frames.specs.Form.{recordWords};
 ghost use Rattle.frames.specs.Frame.{FrameOf};
 ghost use Rattle.records.specs.Own.{childAt, InnerFits};
-ghost use Rattle.tree.specs.Arrive.{InnerThere};
+ghost use Rattle.tree.specs.Arrive.{InnerFitsFrom};
 ghost use Rattle.points.specs.Point.{leafPoint, leafRef, lowestOf, runBelow, runOf, forkPoint, childStep, innerStep, stepOf, endedOf, pointOf};
 use frames::form;
 use frames::form::Form;
@@ -227,7 +227,7 @@ fn inner_at(
     depth: usize,
     up: Up,
 ) -> Step
-    requires { ⌜ FrameOf f (now words) (now keys) × ((depth ≤ length (now tag)) × InnerThere (f .form) (now words) kind start) ⌝ }
+    requires { ⌜ FrameOf f (now words) (now keys) × ((depth ≤ length (now tag)) × InnerFitsFrom (f .form) (now words) kind start) ⌝ }
     ensures { λ r. ⌜ r ≡ innerStep f (now (words .entry)) (now (keys .entry)) (now (tag .entry)) kind (between (now (words .entry)) start (start + recordWords (f .form) kind)) reference depth up ⌝ }
 {
     let e = start + form::record_words(f.form, kind);

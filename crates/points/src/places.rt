@@ -9,7 +9,7 @@ ghost use Rattle.frames.specs.Place.{placeAt, inPool, recordAt};
 ghost use Rattle.records.specs.Words.{childCount};
 ghost use Rattle.records.specs.Own.{InnerFits, totalOf};
 ghost use Rattle.art.specs.Stores.{leaf-place};
-ghost use Rattle.points.specs.There.{InnerHere};
+ghost use Rattle.points.specs.There.{InnerFitsAt};
 use frames::form;
 use frames::frame;
 use frames::frame::Frame;
@@ -19,7 +19,7 @@ use records::leaf_node;
 
 // The words of an inner record.
 pub fn inner_at<'a>(words: &'a [u32], keys: &[u8], f: Frame, reference: u32) -> &'a [u32]
-    requires { ⌜ FrameOf f (now words) (now keys) × InnerHere f (now words) (placeAt reference) ⌝ }
+    requires { ⌜ FrameOf f (now words) (now keys) × InnerFitsAt f (now words) (placeAt reference) ⌝ }
     ensures { λ r. ⌜ (now r ≡ recordAt f (now (words .entry)) (placeAt reference)) × InnerFits (f .form) (reference % 8) (now r) ⌝ }
 {
     let start = frame::start_at(f, reference);
@@ -29,7 +29,7 @@ pub fn inner_at<'a>(words: &'a [u32], keys: &[u8], f: Frame, reference: u32) -> 
 
 // How many children it has.
 pub fn children_at(words: &[u32], keys: &[u8], f: Frame, reference: u32) -> u32
-    requires { ⌜ FrameOf f (now words) (now keys) × InnerHere f (now words) (placeAt reference) ⌝ }
+    requires { ⌜ FrameOf f (now words) (now keys) × InnerFitsAt f (now words) (placeAt reference) ⌝ }
     ensures { λ r. ⌜ r ≡ childCount (recordAt f (now (words .entry)) (placeAt reference)) ⌝ }
 {
     header::child_count(inner_at(words, keys, f, reference))

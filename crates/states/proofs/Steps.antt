@@ -44,7 +44,7 @@ use Rattle.view.proofs.Leaves.{words-long, words-cell, words-rule, bytes-long, 
 use Rattle.view.proofs.Chains.{total-links}
 use Rattle.view.proofs.Trailers.{trailer-same, trailer-other}
 use Rattle.whole.specs.Witness.{tagAt, LeafSeen}
-use Rattle.points.specs.There.{InnerHere, HasChild}
+use Rattle.points.specs.There.{InnerFitsAt, HasChild}
 use Rattle.writes.specs.At.{changeAt, prefixedAt, branchAt, moveAt, dropAt, clearAt}
 use Rattle.writes.specs.Leaf.{leafIn, keyIn, leafOut, keyOut, totalAt}
 use Rattle.writes.proofs.Spots.{frame-stores}
@@ -57,7 +57,7 @@ use Rattle.states.proofs.Links.{trailer-state, next-state, previous-sta
 module _ {f : Frame} {words keys : List ℕ} {σ : Store Held} {links : Links} {root count : ℕ} (s : State f words keys σ links root count) where
   -- ── what is there ──
   -- an inner record: it is there, with its child count, its length and its stored bytes
-  pub state-here : (k n len : ℕ) (st : List ℕ) (rs : Refs) → σ (inner-place k n) ≡ inner-cell len st rs → InnerHere f words (inner-place k n)
+  pub state-here : (k n len : ℕ) (st : List ℕ) (rs : Refs) → σ (inner-place k n) ≡ inner-cell len st rs → InnerFitsAt f words (inner-place k n)
   state-here k n len st rs e = let h = stands s k n len st rs e in record { pool = h .pool; fits = h .own .fits }
 
   pub state-count-word : (k n len : ℕ) (st : List ℕ) (rs : Refs) → σ (inner-place k n) ≡ inner-cell len st rs → getD (recordAt f words (inner-place k n)) 1 0 ≡ length rs

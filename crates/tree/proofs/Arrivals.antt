@@ -18,7 +18,7 @@ use Rattle.records.specs.View.{ruleAt}
 use Rattle.frames.specs.declared.frame.Frame.{Frame}
 use Rattle.frames.proofs.Places.{inner-kind, place-room, leaf-room, record-length, key-length}
 use Rattle.art.specs.Stores.{Place, leaf-place, inner-place}
-use Rattle.tree.specs.Arrive.{onPath, arrived, arrivalAt, LeafThere, InnerThere, withFrame, fromRoot}
+use Rattle.tree.specs.Arrive.{onPath, arrived, arrivalAt, LeafThere, InnerFitsFrom, withFrame, fromRoot}
 use Rattle.tree.specs.declared.answer.Found.{Found}
 use Rattle.tree.specs.declared.answer.Found.the-variants.{Missing, Damaged}
 use Rattle.tree.specs.declared.arrive.Arrival.{Arrival}
@@ -87,7 +87,7 @@ module _ {f : Frame} {words keys : List ℕ} (w : FrameOf f words keys) where
         ∙ ap (λ (a : ℕ). innerOk (f .form) k (between words a (a + recordWords (f .form) k))) (s ∙ ap (startAt f) e)
         ∙ sym (ap (ruleAt f words keys) e)
 
-    pub inner-stands : ruleAt f words keys x ≡ true → InnerThere (f .form) words k start
+    pub inner-stands : ruleAt f words keys x ≡ true → InnerFitsFrom (f .form) words k start
     inner-stands r =
         let q : inPool f (inner-place k n) ≡ true = ap (inPool f) (sym e) ∙ p in
         let t : startAt f (inner-place k n) ≡ start = sym (s ∙ ap (startAt f) e) in
@@ -132,7 +132,7 @@ module _ (f : Frame) (words keys : List ℕ) (left : ℕ) (x : Place) where
 -- ── what an arrival says ──
 abbrev There : Frame → List ℕ → List ℕ → Arrival → Type 0
 There f words keys (Leaf n start) = LeafThere (f .form .limit) words keys n start
-There f words keys (Inner k start) = InnerThere (f .form) words k start
+There f words keys (Inner k start) = InnerFitsFrom (f .form) words k start
 There f words keys Broken = Unit
 
 module _ {f : Frame} {words keys : List ℕ} (w : FrameOf f words keys) (left : ℕ) (x : Place) where
@@ -153,7 +153,7 @@ module _ {f : Frame} {words keys : List ℕ} (w : FrameOf f words keys) (left : 
   pub leaf-there : (n start : ℕ) → arrivalAt f words keys left x ≡ Leaf n start → LeafThere (f .form .limit) words keys n start
   leaf-there n start e = subst (There f words keys) e there
 
-  pub inner-there : (k start : ℕ) → arrivalAt f words keys left x ≡ Inner k start → InnerThere (f .form) words k start
+  pub inner-there : (k start : ℕ) → arrivalAt f words keys left x ≡ Inner k start → InnerFitsFrom (f .form) words k start
   inner-there k start e = subst (There f words keys) e there
 
 -- ── where a call begins ──

@@ -48,7 +48,7 @@ pub record LeafThere (limit : ℕ) (words keys : List ℕ) (n start : ℕ) : Typ
   pub fits : LeafFits limit (between words start (start + leafSize)) (between keys (n * limit) (n * limit + limit))
 
 -- an inner record of the kind, whose words from start on lie within the slice and obey its rule
-pub record InnerThere (form : Form) (words : List ℕ) (kind start : ℕ) : Type 0 where
+pub record InnerFitsFrom (form : Form) (words : List ℕ) (kind start : ℕ) : Type 0 where
   pub room : start + recordWords form kind ≤ length words
   pub fits : InnerFits form kind (between words start (start + recordWords form kind))
 

@@ -7,7 +7,7 @@ ghost use Rattle.frames.specs.Kind.{leafSize};
 ghost use Rattle.frames.specs.Form.{recordWords};
 ghost use Rattle.frames.specs.Frame.{FrameOf};
 ghost use Rattle.records.specs.Own.{InnerFits};
-ghost use Rattle.tree.specs.Arrive.{LeafFits, LeafThere, InnerThere};
+ghost use Rattle.tree.specs.Arrive.{LeafFits, LeafThere, InnerFitsFrom};
 ghost use Rattle.tree.specs.Walk.{compareFrom, fits, leafAnswer, innerStep, stepOf, endedOf, walkOf, findOf, searchOf, prefixSearchOf};
 use super::answer::Found;
 use super::arrive;
@@ -150,7 +150,7 @@ fn inner_at(
     depth: usize,
     behavior: PrefixMatchBehavior,
 ) -> Step
-    requires { ⌜ InnerThere form (now words) kind start × (depth ≤ length (now tag)) ⌝ }
+    requires { ⌜ InnerFitsFrom form (now words) kind start × (depth ≤ length (now tag)) ⌝ }
     ensures { λ r. ⌜ r ≡ innerStep form kind (between (now (words .entry)) start (start + recordWords form kind)) (now (tag .entry)) depth behavior ⌝ }
 {
     let e = start + form::record_words(form, kind);

@@ -9,7 +9,7 @@ ghost use Rattle.frames.specs.Frame.{FrameOf};
 ghost use Rattle.records.specs.Own.{InnerFits};
 ghost use Rattle.records.specs.Row.{rowAt};
 ghost use Rattle.tree.specs.Answer.{leafFound};
-ghost use Rattle.tree.specs.Arrive.{InnerThere};
+ghost use Rattle.tree.specs.Arrive.{InnerFitsFrom};
 ghost use Rattle.tree.specs.Edge.{edgeEntry, edgeRef, edgeStep, edgeEnded, edgeOf, edgeLeaf, minimumOf, maximumOf};
 use super::answer::Found;
 use super::arrive;
@@ -48,7 +48,7 @@ fn edge_entry(rec: &[u32], form: Form, kind: u32, edge: Edge) -> Entry
 
 // Its reference; 0 for an empty row, which obeys no rule.
 fn edge_child(words: &[u32], form: Form, kind: u32, start: usize, edge: Edge) -> u32
-    requires { ⌜ InnerThere form (now words) kind start ⌝ }
+    requires { ⌜ InnerFitsFrom form (now words) kind start ⌝ }
     ensures { λ r. ⌜ r ≡ edgeRef edge form kind (between (now (words .entry)) start (start + recordWords form kind)) ⌝ }
 {
     let e = start + form::record_words(form, kind);

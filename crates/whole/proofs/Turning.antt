@@ -11,11 +11,10 @@ use borrow.Author.Tests.{eqb-true, eqb-false, leb-true, leb-false, ltb-true, le-
 use Rattle.lists.specs.Scan.{choose, howMany, nonzero}
 use Rattle.lists.specs.Part.{between}
 use Rattle.lists.proofs.Tests.{both}
-use Rattle.frames.specs.Frame.{trailerOf, frameOf, FrameOf}
+use Rattle.frames.specs.Frame.{FrameOf}
 use Rattle.frames.specs.Place.{placeAt, inPool}
 use Rattle.frames.specs.declared.frame.Frame.{Frame}
-use Rattle.frames.proofs.Frames.{totals}
-use Rattle.frames.proofs.FormTable.{form-rules}
+use Rattle.frames.proofs.Frames.{limit-small}
 use Rattle.records.specs.View.{ruleAt}
 use Rattle.records.specs.Row.{entryFrom, Climbs}
 use Rattle.records.specs.declared.representation.Entry.{Entry}
@@ -23,7 +22,7 @@ use Rattle.records.specs.declared.representation.Entry.the-variants.{Child, Not
 use Rattle.records.proofs.Owns.{inner-rule}
 use Rattle.records.proofs.RowRules.{row-rule}
 use Rattle.art.specs.Stores.{Place, leaf-place, inner-place}
-use Rattle.tree.specs.Arrive.{arrivalAt, arrived, onPath, InnerThere}
+use Rattle.tree.specs.Arrive.{arrivalAt, arrived, onPath, InnerFitsFrom}
 use Rattle.whole.specs.Arrive.{There, innerRec}
 use Rattle.whole.specs.Marks.{fresh, reached}
 use Rattle.whole.specs.Witness.{LeafSeen, WitnessSeen, tagAt, goesOn, storedAgrees}
@@ -53,15 +52,9 @@ module _ (f : Frame) (words keys : List ℕ) (left ref depth : ℕ) (m : List �
       ∙ ap (λ (b : Bool). choose b (turnOf f words ref depth s (arrivalAt f words keys left (placeAt ref))) (Done Ill)) (sym e)
 
 -- ── where a record branches ──
--- the limit of a fitting frame's form is small
-pub limit-small : {f : Frame} {words keys : List ℕ} → FrameOf f words keys → f .form .limit ≤ 128
-unfolding frameOf
-limit-small {f} {words} {keys} w =
-    subst (λ (g : Frame). g .form .limit ≤ 128) (sym (w .read)) (form-rules (getD (trailerOf words) 0 0) (totals words keys (w .fits) .known) .limit)
-
 pub record Branches (f : Frame) (words : List ℕ) (left depth : ℕ) (row : Row) : Type 0 where
   pub some : 0 < left
-  pub there : InnerThere (f .form) words (row .kind) (row .start)
+  pub there : InnerFitsFrom (f .form) words (row .kind) (row .start)
   pub shallow : row .depth ≤ depth + 128
 
 module _ {f : Frame} {words keys : List ℕ} (w : FrameOf f words keys) (left ref depth : ℕ) (m : List ℕ) (s : Seen) where
@@ -69,7 +62,7 @@ module _ {f : Frame} {words keys : List ℕ} (w : FrameOf f words keys) (left re
   BranchesTo (Branch row) = Branches f words left depth row
   BranchesTo (Done v) = Unit {0}
 
-  branch-inner : (k start : ℕ) → InnerThere (f .form) words k start → 0 < left → BranchesTo (turnOf f words ref depth s (Inner k start))
+  branch-inner : (k start : ℕ) → InnerFitsFrom (f .form) words k start → 0 < left → BranchesTo (turnOf f words ref depth s (Inner k start))
   branch-inner k start h z =
       record {
         some = z;
@@ -153,7 +146,7 @@ starts-at lo b (c ∷ cs) h = go (leb b (c .0)) refl (starts-at (suc (c .0)) b c
     go true e ih = here-starts lo b c cs h (leb-true b (c .0) e)
     go false e ih = skip-starts b c cs (entryFrom b cs) (leb-false b (c .0) e) ih
 
-module _ (f : Frame) (words : List ℕ) (row : Row) (h : InnerThere (f .form) words (row .kind) (row .start)) (b : ℕ) where
+module _ (f : Frame) (words : List ℕ) (row : Row) (h : InnerFitsFrom (f .form) words (row .kind) (row .start)) (b : ℕ) where
   pub row-starts : (x r : ℕ) → entryFrom b (rowOf f words row) ≡ Child x r → Starts b (rowOf f words row) x r
   row-starts x r e = subst (StartsAt b (rowOf f words row)) e (starts-at 0 b (rowOf f words row) (row-rule (h .fits) .climbs))
 

@@ -7,7 +7,7 @@ use Rattle.frames.specs.Kind.{leafSize}
 use Rattle.frames.specs.Form.{recordWords}
 use Rattle.frames.specs.declared.form.Form.{Form}
 use Rattle.frames.specs.declared.frame.Frame.{Frame}
-use Rattle.tree.specs.Arrive.{InnerThere}
+use Rattle.tree.specs.Arrive.{InnerFitsFrom}
 use Rattle.tree.specs.declared.arrive.Arrival.{Arrival}
 use Rattle.tree.specs.declared.arrive.Arrival.the-variants.{Leaf, Inner, Broken}
 
@@ -18,5 +18,5 @@ innerRec form words kind start = between words start (start + recordWords form k
 -- what was arrived at lies within the words, and an inner record obeys its rule
 abbrev pub There : Frame → List ℕ → Arrival → Type 0
 There f words (Leaf n start) = start + leafSize ≤ length words
-There f words (Inner kind start) = InnerThere (f .form) words kind start
+There f words (Inner kind start) = InnerFitsFrom (f .form) words kind start
 There f words Broken = Unit {0}

@@ -12,7 +12,7 @@ use Rattle.frames.specs.declared.frame.Frame.{Frame}
 use Rattle.records.specs.Words.{fullLength, previousLeaf, nextLeaf}
 use Rattle.records.specs.Own.{prefixAt}
 use Rattle.records.specs.Row.{rowAt}
-use Rattle.tree.specs.Arrive.{arrivalAt, InnerThere}
+use Rattle.tree.specs.Arrive.{arrivalAt, InnerFitsFrom}
 use Rattle.whole.specs.Arrive.{innerRec}
 use Rattle.whole.specs.Marks.{fresh, reached}
 use Rattle.whole.specs.Witness.{LeafSeen, WitnessSeen, tagAt, goesOn, storedAgrees}
@@ -135,7 +135,7 @@ pub record RecordReady (f : Frame) (words keys : List ℕ) (left depth : ℕ) (s
 -- before the rest of a row, with so many places left: the same, the row's record is there and obeys its rule, and its witness is a leaf or none yet
 pub record RowReady (f : Frame) (words keys : List ℕ) (left : ℕ) (row : Row) (places w : ℕ) (s : Seen) (m : List ℕ) : Type 0 where
   pub frame : FrameOf f words keys
-  pub there : InnerThere (f .form) words (row .kind) (row .start)
+  pub there : InnerFitsFrom (f .form) words (row .kind) (row .start)
   pub within : places ≤ 256
   pub witness : WitnessSeen f words keys w
   pub counted : s .count ≤ howMany nonzero m

@@ -8,7 +8,7 @@ ghost use Rattle.frames.specs.Kind.{leafSize};
 ghost use Rattle.frames.specs.Frame.{FrameOf};
 ghost use Rattle.records.specs.Words.{fullLength};
 ghost use Rattle.records.specs.Row.{entryFrom, rowAt};
-ghost use Rattle.tree.specs.Arrive.{InnerThere};
+ghost use Rattle.tree.specs.Arrive.{InnerFitsFrom};
 ghost use Rattle.whole.specs.Arrive.{There, innerRec};
 ghost use Rattle.whole.specs.Marks.{reached};
 ghost use Rattle.whole.specs.Witness.{WitnessSeen};
@@ -76,7 +76,7 @@ fn leaf_visit(words: &[u32], start: usize, reference: u32, s: Seen) -> Visit
 
 // How many bytes an inner record's run has.
 fn run_len(words: &[u32], form: Form, kind: u32, start: usize) -> usize
-    requires { ⌜ InnerThere form (now words) kind start ⌝ }
+    requires { ⌜ InnerFitsFrom form (now words) kind start ⌝ }
     ensures { λ r. ⌜ (r ≡ fullLength (innerRec form (now (words .entry)) kind start)) × (r < 2 ^ 32) ⌝ }
 {
     let e = start + form::record_words(form, kind);
@@ -133,7 +133,7 @@ fn turn_done(t: Turn) -> Visit
 
 // The first child of a row at or after a byte.
 fn row_child(words: &[u32], form: Form, row: Row, byte: usize) -> Entry
-    requires { ⌜ InnerThere form (now words) (row .kind) (row .start) × (byte ≤ 256) ⌝ }
+    requires { ⌜ InnerFitsFrom form (now words) (row .kind) (row .start) × (byte ≤ 256) ⌝ }
     ensures { λ r. ⌜ r ≡ entryFrom byte (rowAt form (row .kind) (innerRec form (now (words .entry)) (row .kind) (row .start))) ⌝ }
 {
     let start = row.start;
@@ -175,7 +175,7 @@ fn first_of(w: u32, t: u32) -> u32
 
 // Its row is well, and its stored bytes are its witness's.
 fn record_end(words: &[u32], keys: &[u8], f: Frame, row: Row, depth: usize, v: Visit) -> Visit
-    requires { ⌜ FrameOf f (now words) (now keys) × (InnerThere (f .form) (now words) (row .kind) (row .start) × Sees f (now words) (now keys) v) ⌝ }
+    requires { ⌜ FrameOf f (now words) (now keys) × (InnerFitsFrom (f .form) (now words) (row .kind) (row .start) × Sees f (now words) (now keys) v) ⌝ }
     ensures { λ r. ⌜ r ≡ recordEnd f (now (words .entry)) (now (keys .entry)) row depth v ⌝ }
 {
     let Visit::Well(w, s) = v else {

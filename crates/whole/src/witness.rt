@@ -4,7 +4,7 @@ ghost use Prim.Native.Nat.{_≤_};
 ghost use lib.ListN.{length};
 ghost use Rattle.frames.specs.Frame.{FrameOf};
 ghost use Rattle.records.specs.Own.{prefixAt};
-ghost use Rattle.tree.specs.Arrive.{InnerThere};
+ghost use Rattle.tree.specs.Arrive.{InnerFitsFrom};
 ghost use Rattle.whole.specs.Arrive.{innerRec};
 ghost use Rattle.whole.specs.Witness.{LeafSeen, tagAt, lengthAt, goesOn, storedAgrees};
 use frames::form;
@@ -90,7 +90,7 @@ pub fn leaf_agrees(
     depth: usize,
     leaf: u32,
 ) -> bool
-    requires { ⌜ FrameOf f (now words) (now keys) × (InnerThere (f .form) (now words) kind start × LeafSeen f (now words) (now keys) leaf) ⌝ }
+    requires { ⌜ FrameOf f (now words) (now keys) × (InnerFitsFrom (f .form) (now words) kind start × LeafSeen f (now words) (now keys) leaf) ⌝ }
     ensures { λ r. ⌜ r ≡ storedAgrees depth (prefixAt (f .form) (innerRec (f .form) (now (words .entry)) kind start)) (tagAt f (now (words .entry)) (now (keys .entry)) leaf) ⌝ }
 {
     let e = start + form::record_words(f.form, kind);

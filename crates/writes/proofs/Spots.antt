@@ -27,9 +27,9 @@ use Rattle.pools.specs.Link.{setNext, setPrevious}
 use Rattle.edits.specs.declared.representation.Change.{Change}
 use Rattle.edits.specs.declared.representation.Change.the-variants.{Add, Remove, Replace}
 use Rattle.edits.specs.Change.{Needs}
-use Rattle.points.specs.There.{InnerHere}
+use Rattle.points.specs.There.{InnerFitsAt}
 use Rattle.points.proofs.Here.{place-kind}
-use Rattle.writes.specs.At.{Changes, InnerPlace}
+use Rattle.writes.specs.At.{Changes, InnerPoolAt}
 use Rattle.writes.specs.Leaf.{leafIn, leafOut}
 
 -- an inner record's place has the size of its kind
@@ -38,7 +38,7 @@ inner-size f (leaf-place n) h = absurd (omega arith)
 inner-size f (inner-place k n) h = refl
 
 -- a record that is there has a place
-pub here-place : {f : Frame} {words : List ℕ} {x : Place} → InnerHere f words x → InnerPlace f x
+pub here-place : {f : Frame} {words : List ℕ} {x : Place} → InnerFitsAt f words x → InnerPoolAt f x
 here-place h = record { pool = h .pool; low = h .fits .low; high = h .fits .high }
 
 -- the kind and the room of an inner place that a reference names
@@ -48,7 +48,7 @@ pub record Room (f : Frame) (words : List ℕ) (ref : ℕ) : Type 0 where
   pub size : sizeAt f (placeAt ref) ≡ recordWords (f .form) (ref % 8)
   pub ends : startAt f (placeAt ref) + recordWords (f .form) (ref % 8) + 16 ≤ length words
 
-pub room-of : {f : Frame} {words keys : List ℕ} → FrameOf f words keys → (ref : ℕ) → InnerPlace f (placeAt ref) → Room f words ref
+pub room-of : {f : Frame} {words keys : List ℕ} → FrameOf f words keys → (ref : ℕ) → InnerPoolAt f (placeAt ref) → Room f words ref
 room-of {f} {words} {keys} w ref h =
     let e = place-kind ref in
     let z : sizeAt f (placeAt ref) ≡ recordWords (f .form) (ref % 8) = inner-size f (placeAt ref) (h .high) ∙ ap (recordWords (f .form)) e in
@@ -60,7 +60,7 @@ room-of {f} {words} {keys} w ref h =
     }
 
 -- a record's prefix is no longer than the form's limit
-pub prefix-short : {f : Frame} {words : List ℕ} {x : Place} → InnerHere f words x → prefixAt (f .form) (recordAt f words x) .full .0 ≤ f .form .limit
+pub prefix-short : {f : Frame} {words : List ℕ} {x : Place} → InnerFitsAt f words x → prefixAt (f .form) (recordAt f words x) .full .0 ≤ f .form .limit
 unfolding prefixAt
 prefix-short {f} {words} {x} h = inner-rule (f .form) (kindAt x) (recordAt f words x) (h .fits .ok) .head .short
 
@@ -89,13 +89,13 @@ module _ (f : Frame) (words : List ℕ) (ref : ℕ) {a e : ℕ} (start : a ≡ s
 
 -- a record that a change can be made to is there, and has what the change needs
 pub change-ready : (f : Frame) (words : List ℕ) (x : Place) (byte : ℕ) (change : Change) → Changes f words x byte change
-    → InnerHere f words x × Needs change (getD (recordAt f words x) 1 0 < childrenOf (kindAt x)) (0 < childAt (f .form) (kindAt x) (recordAt f words x) byte)
+    → InnerFitsAt f words x × Needs change (getD (recordAt f words x) 1 0 < childrenOf (kindAt x)) (0 < childAt (f .form) (kindAt x) (recordAt f words x) byte)
 change-ready f words x byte (Add ref) h = (h .here, h .room)
 change-ready f words x byte Remove h = (h .here, h .child)
 change-ready f words x byte (Replace ref) h = (h .here, h .child)
 
 -- the words of an inner place
-pub record-long : {f : Frame} {words keys : List ℕ} → FrameOf f words keys → (x : Place) → InnerPlace f x → length (recordAt f words x) ≡ recordWords (f .form) (kindAt x)
+pub record-long : {f : Frame} {words keys : List ℕ} → FrameOf f words keys → (x : Place) → InnerPoolAt f x → length (recordAt f words x) ≡ recordWords (f .form) (kindAt x)
 record-long {f} {words} {keys} w x h = record-length w x (h .pool) ∙ inner-size f x (h .high)
 
 -- ── the form ──
@@ -106,7 +106,7 @@ frame-stores {f} {words} {keys} w =
 
 -- a record can be built at the part, from these places
 pub build-ready : {f : Frame} {words keys : List ℕ} → FrameOf f words keys → (ref a e : ℕ) → a ≡ startAt f (placeAt ref)
-    → e ≡ startAt f (placeAt ref) + sizeAt f (placeAt ref) → InnerPlace f (placeAt ref) → (p : Prefix) → length (p .stored) ≡ 8
+    → e ≡ startAt f (placeAt ref) + sizeAt f (placeAt ref) → InnerPoolAt f (placeAt ref) → (p : Prefix) → length (p .stored) ≡ 8
     → (t : List ℕ) → length t ≡ 256 → howMany nonzero t ≤ childrenOf (kindAt (placeAt ref))
     → (((1 ≤ ref % 8) × (ref % 8 ≤ 4)) × (length (between words a e) ≡ recordWords (f .form) (ref % 8)))
     × ((Stores (f .form) × (length (p .stored) ≡ 8)) × ((length t ≡ 256) × (howMany nonzero t ≤ childrenOf (ref % 8))))
@@ -129,10 +129,10 @@ tag-fits w tag h = omega (arith, limit-small w)
 
 -- a leaf is put in, and taken out, where its words are written after the links of its neighbours
 module _ (f : Frame) (n p q : ℕ) (words : List ℕ) {l out : List ℕ} where
-  pub leaf-in-by : (len total : ℕ) → out ≡ putAt f l (leaf-place n) (leafWords len p q total)
-      → l ≡ setPrevious f q (leaf-ref n) (setNext f p (leaf-ref n) words) → out ≡ leafIn f n len p q total words
+  pub leaf-in-by : (len total : ℕ) {ref : ℕ} → ref ≡ leaf-ref n → out ≡ putAt f l (leaf-place n) (leafWords len p q total)
+      → l ≡ setPrevious f q ref (setNext f p ref words) → out ≡ leafIn f n len p q total words
   unfolding leafIn
-  leaf-in-by len total e h = e ∙ ap (λ (x : List ℕ). putAt f x (leaf-place n) (leafWords len p q total)) h
+  leaf-in-by len total r e h = e ∙ ap (λ (x : List ℕ). putAt f x (leaf-place n) (leafWords len p q total)) (h ∙ ap (λ (k : ℕ). setPrevious f q k (setNext f p k words)) r)
 
   pub leaf-out-by : out ≡ putAt f l (leaf-place n) (replicate 6 0) → l ≡ setPrevious f q p (setNext f p q words) → out ≡ leafOut f n p q words
   unfolding leafOut

@@ -17,7 +17,7 @@ use Rattle.edits.specs.Head.{setPrefix}
 use Rattle.edits.specs.declared.representation.Change.{Change}
 use Rattle.edits.specs.Record.{changeOf, spreadOf, buildRec}
 use Rattle.edits.specs.Rows.{rowPair}
-use Rattle.points.specs.There.{InnerHere, HasChild}
+use Rattle.points.specs.There.{InnerFitsAt, HasChild}
 
 -- the children changed for a byte
 unfoldable pub changeAt : Frame → Place → ℕ → Change → List ℕ → List ℕ
@@ -48,7 +48,7 @@ clearAt f x words = putAt f words x (replicate (sizeAt f x) 0)
 -- ── what must hold ──
 -- it has room for a child
 pub record Roomy (f : Frame) (words : List ℕ) (x : Place) : Type 0 where
-  pub here : InnerHere f words x
+  pub here : InnerFitsAt f words x
   pub room : childCount (recordAt f words x) < childrenOf (kindAt x)
 
 -- what a change needs: room for a child more, else the child
@@ -56,19 +56,19 @@ abbrev pub Changes : Frame → List ℕ → Place → ℕ → Change → Type 0
 Changes f words x byte change = Needs change (Roomy f words x) (HasChild f words x byte)
 
 -- an inner record's place in a pool
-pub record InnerPlace (f : Frame) (x : Place) : Type 0 where
+pub record InnerPoolAt (f : Frame) (x : Place) : Type 0 where
   pub pool : inPool f x ≡ true
   pub low : 1 ≤ kindAt x
   pub high : kindAt x ≤ 4
 
 -- the children of the record at x have room at y
 pub record Moves (f : Frame) (words : List ℕ) (x y : Place) : Type 0 where
-  pub from : InnerHere f words x
-  pub to : InnerPlace f y
+  pub from : InnerFitsAt f words x
+  pub to : InnerPoolAt f y
   pub room : childCount (recordAt f words x) ≤ childrenOf (kindAt y)
 
 -- and so without the child for a byte
 pub record Drops (f : Frame) (words : List ℕ) (x y : Place) (byte : ℕ) : Type 0 where
   pub from : HasChild f words x byte
-  pub to : InnerPlace f y
+  pub to : InnerPoolAt f y
   pub room : childCount (recordAt f words x) ≤ childrenOf (kindAt y) + 1

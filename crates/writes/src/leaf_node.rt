@@ -81,7 +81,7 @@ pub fn leaf_in(
     requires { ⌜ (FrameOf f (now words) (now keys) × ((inPool f (leaf-place n) ≡ true) × (length (now tag) ≤ f .form .limit))) × (LeafOrEnd f (gap .previous) × LeafOrEnd f (gap .next)) ⌝ }
     ensures { λ _. ⌜ (now (words .exit) ≡ leafIn f n (length (now (tag .entry))) (gap .previous) (gap .next) total (now (words .entry))) × (now (keys .exit) ≡ keyIn f n (now (tag .entry)) (now (keys .entry))) ⌝ }
 {
-    let reference = n * 8 + frame::LEAF;
+    let reference = frame::reference_to(frame::LEAF, n as usize);
     key_in(keys, words, f, n, tag);
     link_gap(words, keys, f, gap, reference, reference);
     write_at(words, keys, f, n, tag.len() as u32, gap, total);

@@ -7,8 +7,8 @@ ghost use Rattle.frames.specs.Frame.{FrameOf};
 ghost use Rattle.frames.specs.Place.{placeAt, startAt, sizeAt, recordAt, kindAt};
 ghost use Rattle.records.specs.Own.{prefixAt};
 ghost use Rattle.edits.specs.Record.{spreadOf};
-ghost use Rattle.points.specs.There.{InnerHere};
-ghost use Rattle.writes.specs.At.{changeAt, prefixedAt, branchAt, moveAt, dropAt, clearAt, Changes, InnerPlace, Moves, Drops};
+ghost use Rattle.points.specs.There.{InnerFitsAt};
+ghost use Rattle.writes.specs.At.{changeAt, prefixedAt, branchAt, moveAt, dropAt, clearAt, Changes, InnerPoolAt, Moves, Drops};
 use edits::header;
 use edits::representation;
 use edits::representation::Change;
@@ -28,7 +28,7 @@ pub struct Part {
 
 // The part that an inner record is.
 fn part_at(words: &[u32], keys: &[u8], f: Frame, reference: u32) -> Part
-    requires { ⌜ FrameOf f (now words) (now keys) × InnerPlace f (placeAt reference) ⌝ }
+    requires { ⌜ FrameOf f (now words) (now keys) × InnerPoolAt f (placeAt reference) ⌝ }
     ensures { λ r. ⌜ (r .start ≡ startAt f (placeAt reference)) × ((r .end ≡ startAt f (placeAt reference) + sizeAt f (placeAt reference)) × (r .end ≤ length (now (words .entry)))) ⌝ }
 {
     let start = frame::start_at(f, reference);
@@ -41,7 +41,7 @@ fn part_at(words: &[u32], keys: &[u8], f: Frame, reference: u32) -> Part
 
 // The prefix of a record.
 pub fn prefix_of(words: &[u32], keys: &[u8], f: Frame, reference: u32) -> Prefix
-    requires { ⌜ FrameOf f (now words) (now keys) × InnerPlace f (placeAt reference) ⌝ }
+    requires { ⌜ FrameOf f (now words) (now keys) × InnerPoolAt f (placeAt reference) ⌝ }
     ensures { λ r. ⌜ r ≡ prefixAt (f .form) (recordAt f (now (words .entry)) (placeAt reference)) ⌝ }
 {
     let part = part_at(words, keys, f, reference);
@@ -63,7 +63,7 @@ pub fn change_at(words: &mut [u32], keys: &[u8], f: Frame, reference: u32, byte:
 
 // Another prefix.
 pub fn set_prefix_at(words: &mut [u32], keys: &[u8], f: Frame, reference: u32, p: Prefix)
-    requires { ⌜ FrameOf f (now words) (now keys) × (InnerHere f (now words) (placeAt reference) × (length (p .stored) ≡ 8)) ⌝ }
+    requires { ⌜ FrameOf f (now words) (now keys) × (InnerFitsAt f (now words) (placeAt reference) × (length (p .stored) ≡ 8)) ⌝ }
     ensures { λ _. ⌜ now (words .exit) ≡ prefixedAt f (placeAt reference) p (now (words .entry)) ⌝ }
 {
     let part = part_at(words, keys, f, reference);
@@ -74,7 +74,7 @@ pub fn set_prefix_at(words: &mut [u32], keys: &[u8], f: Frame, reference: u32, p
 
 // All words 0.
 pub fn clear_at(words: &mut [u32], keys: &[u8], f: Frame, reference: u32)
-    requires { ⌜ FrameOf f (now words) (now keys) × InnerPlace f (placeAt reference) ⌝ }
+    requires { ⌜ FrameOf f (now words) (now keys) × InnerPoolAt f (placeAt reference) ⌝ }
     ensures { λ _. ⌜ now (words .exit) ≡ clearAt f (placeAt reference) (now (words .entry)) ⌝ }
 {
     let part = part_at(words, keys, f, reference);
@@ -95,7 +95,7 @@ pub fn branch_at(
     c: u8,
     s: u32,
 )
-    requires { ⌜ (FrameOf f (now words) (now keys) × InnerPlace f (placeAt reference)) × ((length (p .stored) ≡ 8) × ((b ≢ c) × ((0 < r) × (0 < s)))) ⌝ }
+    requires { ⌜ (FrameOf f (now words) (now keys) × InnerPoolAt f (placeAt reference)) × ((length (p .stored) ≡ 8) × ((b ≢ c) × ((0 < r) × (0 < s)))) ⌝ }
     ensures { λ _. ⌜ now (words .exit) ≡ branchAt f (placeAt reference) p b r c s (now (words .entry)) ⌝ }
 {
     let part = part_at(words, keys, f, reference);
@@ -109,7 +109,7 @@ pub fn branch_at(
 
 // The references of a record by their bytes.
 fn spread_at(words: &[u32], keys: &[u8], f: Frame, reference: u32) -> [u32; BYTES]
-    requires { ⌜ FrameOf f (now words) (now keys) × InnerHere f (now words) (placeAt reference) ⌝ }
+    requires { ⌜ FrameOf f (now words) (now keys) × InnerFitsAt f (now words) (placeAt reference) ⌝ }
     ensures { λ r. ⌜ r ≡ spreadOf (f .form) (kindAt (placeAt reference)) (recordAt f (now (words .entry)) (placeAt reference)) ⌝ }
 {
     let part = part_at(words, keys, f, reference);

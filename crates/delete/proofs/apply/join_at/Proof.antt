@@ -7,7 +7,7 @@ use Rattle.frames.specs.Place.{placeAt, recordAt}
 use Rattle.frames.proofs.FormTable.{stored-eight}
 use Rattle.records.specs.Own.{prefixAt}
 use Rattle.writes.specs.At.{prefixedAt}
-use Rattle.whole.proofs.Turning.{limit-small}
+use Rattle.frames.proofs.Frames.{limit-small}
 use Rattle.writes.proofs.Spots.{here-place, prefix-short}
 use Rattle.writes.proofs.Kept.{prefixed-kept}
 use Rattle.delete.proofs.Joins.{merge-stored, combined-here, combined-leaf, combined-inner}

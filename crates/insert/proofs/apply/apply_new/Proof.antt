@@ -1,6 +1,6 @@
 -- `apply::apply_new` meets its contract: the tree, then the leaf and the list, then the tag count, which was read first.
 use native.Mathlib.Omega.{arith}
-use Rattle.points.proofs.Here.{eights-fit, leaf-ref-fits}
+use Rattle.points.proofs.Here.{leaf-small}
 use Rattle.insert.proofs.Cases.{words-long, still-long, new-made}
 use borrow.Author.Needs.{needs}
 use Rattle.insert.proofs.apply.apply_new.Statement.{statement}
@@ -8,6 +8,9 @@ use Rattle.insert.proofs.apply.apply_new.Tie as tie
 
 trailer-word-requires : tie.Need-trailer-word-requires
 trailer-word-requires c κs = (search words-long, omega arith)
+
+reference-to-requires : tie.Need-reference-to-requires
+reference-to-requires c κs = (omega arith, search leaf-small)
 
 hang-requires : tie.Need-hang-requires
 hang-requires c κs = (search, (search, omega arith))
@@ -20,4 +23,4 @@ returns c = (search new-made, search)
 
 pub apply-new-spec : {M : Type 1} → statement M
 apply-new-spec =
-    tie.close (tie.spec trailer-word-requires (λ c. search needs) (λ c. search eights-fit) (λ c. search leaf-ref-fits) hang-requires (λ c κs. search needs) set-trailer-requires (λ c. search needs) (λ c. search needs) returns)
+    tie.close (tie.spec trailer-word-requires (λ c. search needs) reference-to-requires hang-requires (λ c κs. search needs) set-trailer-requires (λ c. search needs) (λ c. search needs) returns)

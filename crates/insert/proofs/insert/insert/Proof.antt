@@ -1,5 +1,6 @@
 -- `insert` meets its contract: a tag that is too long is refused, each answer of the check is a case of `insertBy`, and nothing but the check writes to scratch.
-use Rattle.insert.proofs.Calls.{call-long, call-short, call-sound, call-by}
+use mathlib.Core.Path.{sym, _∙_}
+use Rattle.insert.proofs.Calls.{call-long, call-sound, call-by}
 use Rattle.insert.proofs.Cases.{insert-as}
 use borrow.Author.Needs.{needs}
 use Rattle.insert.proofs.insert.insert.Statement.{statement}
@@ -10,8 +11,9 @@ returns c = search call-long
 
 insert-sound-requires : tie.Need-insert-sound-requires
 insert-sound-requires c κs =
-    let checked = c .before .before .before .before .before .before .check in
-    (call-sound _ _ _ (checked .ensures) (search), search call-short)
+    let checked = c .before .before .before .before .before .before in
+    let tested = checked .before .before .before .before in
+    (call-sound _ _ _ (checked .check .ensures) (search), sym (tested .before .too-long .ensures) ∙ tested .if1 .left)
 
 returns-2 : tie.Need-returns-2
 returns-2 c =

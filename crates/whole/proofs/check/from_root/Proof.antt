@@ -1,7 +1,7 @@
 -- `check::from_root` meets its contract: a root of 0 is none, and before the first leaf nothing is seen.
 use native.Mathlib.Omega.{arith}
 use Rattle.frames.proofs.Frames.{totals}
-use Rattle.whole.proofs.Turning.{limit-small}
+use Rattle.frames.proofs.Frames.{limit-small}
 use Rattle.whole.proofs.Calls.{root-none, root-goes}
 use borrow.Author.Needs.{needs}
 use Rattle.whole.proofs.check.from_root.Statement.{statement}

@@ -1,10 +1,14 @@
 -- `leaf_node::leaf_in` meets its contract: each write leaves the frame as it was, so that the next one can be made.
-use Rattle.points.proofs.Here.{eights-fit, leaf-ref-fits}
+use native.Mathlib.Omega.{arith}
+use Rattle.points.proofs.Here.{leaf-small}
 use Rattle.writes.proofs.Spots.{tag-fits, leaf-in-by}
 use Rattle.writes.proofs.Kept.{keys-kept}
 use borrow.Author.Needs.{needs}
 use Rattle.writes.proofs.leaf_node.leaf_in.Statement.{statement}
 use Rattle.writes.proofs.leaf_node.leaf_in.Tie as tie
+
+reference-to-requires : tie.Need-reference-to-requires
+reference-to-requires c κs = (omega arith, search leaf-small)
 
 link-gap-requires : tie.Need-link-gap-requires
 link-gap-requires c κs = (search keys-kept, search)
@@ -14,4 +18,4 @@ returns c = (search leaf-in-by, search)
 
 pub leaf-in-spec : {M : Type 1} → statement M
 leaf-in-spec =
-    tie.close (tie.spec (λ c. search eights-fit) (λ c. search leaf-ref-fits) (λ c κs. search needs) link-gap-requires (λ c. search tag-fits) (λ c κs. search needs) (λ c. search needs) (λ c. search needs) returns)
+    tie.close (tie.spec reference-to-requires (λ c κs. search needs) link-gap-requires (λ c. search tag-fits) (λ c κs. search needs) (λ c. search needs) (λ c. search needs) returns)
