@@ -47,8 +47,8 @@ module _ (tag t : List ℕ) (d : ℕ) where
   pub agreed-by : {c : ℕ} → c ≡ shared (between tag d (length tag)) (between t d (length t)) → c ≡ shared (drop d tag) (drop d t)
   agreed-by e = e ∙ ap (λ (l : List ℕ). shared l (between t d (length t))) (rest-of tag d) ∙ ap (shared (drop d tag)) (rest-of t d)
 
-  pub agreed-within : {c : ℕ} → d ≤ length tag → c ≡ shared (drop d tag) (drop d t) → d + c ≤ length tag
-  agreed-within h e = omega (arith, shared-le (drop d tag) (drop d t) .0, length-drop d tag)
+  pub agreed-fits : {c : ℕ} → c ≡ shared (drop d tag) (drop d t) → d ≤ length tag → length tag < 2 ^ 64 → Fits w64 (d + c)
+  agreed-fits e h k = omega (arith, shared-le (drop d tag) (drop d t) .0, length-drop d tag)
 
 -- ── at a leaf, whose tag t agrees so far ──
 module _ (tag t : List ℕ) (ref d : ℕ) (upper up : Up) {c : ℕ} (e : c ≡ shared (drop d tag) (drop d t)) where
@@ -83,11 +83,12 @@ module _ (f : Frame) (words keys tag : List ℕ) (d full : ℕ) where
   below-none found.Damaged leaf e z = refl
   below-none found.NoLeaf leaf e z = refl
 
-  module _ (leaf c : ℕ) (k : c ≡ shared (drop d tag) (drop d (tagAt f words keys leaf))) where
+  module _ {leaf c : ℕ} {t : List ℕ} (et : t ≡ tagAt f words keys leaf) (k : c ≡ shared (drop d tag) (drop d t)) where
     below-some : (a : Found) → leaf ≡ leafRef a → (leaf ≡ 0 → ⊥) → Agrees (min full c) ≡ runBelow f words keys tag d full a
     below-some (found.Leaf n total) e z =
+        let et′ : t ≡ tagAt f words keys (n * 8 + 5) = et ∙ ap (tagAt f words keys) e in
         ap Agrees
-        (ap (min full) (k ∙ ap (λ (r : ℕ). shared (drop d tag) (drop d (tagAt f words keys r))) e ∙ shared-swap (drop d tag) (drop d (tagAt f words keys (n * 8 + 5))))
+        (ap (min full) (k ∙ ap (λ (l : List ℕ). shared (drop d tag) (drop d l)) et′ ∙ shared-swap (drop d tag) (drop d (tagAt f words keys (n * 8 + 5))))
         ∙ sym (shared-take full (drop d (tagAt f words keys (n * 8 + 5))) (drop d tag)))
     below-some found.Missing e z = absurd (z e)
     below-some found.Damaged e z = absurd (z e)
