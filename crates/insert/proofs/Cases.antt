@@ -1,5 +1,5 @@
 -- The cases of a plan, of a site and of what the check found: what each needs, and what it comes to.
-use Prim.Native.Nat.{ℕ, _+_, _/_, _≤_}
+use Prim.Native.Nat.{ℕ, _+_, _/_, _≤_, _<_}
 use mathlib.Core.Path.{_≡_, sym, ap, subst, _∙_}
 use mathlib.Core.List.{List}
 use mathlib.Core.Bool.{true}
@@ -68,6 +68,13 @@ add-kept f words keys tag leaf {site} {ref} {byte} e h w {o} eo k =
     change-kept w o k (placeAt ref) (add-ready f words keys tag leaf e h .here .pool) byte (change.Add leaf) eo
 
 -- ── all of it ──
+-- a new leaf's site is ready for the reference as it was made, which is not 0
+pub site-for : (f : Frame) (words keys tag : List ℕ) (site : Site) (n : ℕ) (gap : Gap) {ref : ℕ} → ref ≡ leaf-ref n → NewReady f words keys tag site n gap → SiteReady f words keys tag site ref
+site-for f words keys tag site n gap e r = subst (SiteReady f words keys tag site) (sym e) (r .site-ready)
+
+pub ref-some : (n : ℕ) {ref : ℕ} → ref ≡ leaf-ref n → 0 < ref
+ref-some n e = omega arith
+
 -- the words hold a trailer, before the writes and after them
 pub words-long : {f : Frame} {words keys : List ℕ} → FrameOf f words keys → 16 ≤ length words
 words-long {f} {words} {keys} w = totals words keys (w .fits) .long

@@ -5,6 +5,8 @@ use mathlib.Core.List.{List}
 use native.Mathlib.Omega.{arith}
 use borrow.Author.Tests.{ltb-true}
 use lib.ListN.{getD}
+use mir.Syntax.{w64}
+use mir.Val.{Fits}
 use Rattle.frames.specs.Frame.{FrameOf}
 use Rattle.frames.specs.Place.{placeAt, startAt}
 use Rattle.frames.proofs.Frames.{framed, caps-most}
@@ -84,7 +86,10 @@ module _ (f : Frame) (words keys : List ℕ) where
       go found.Damaged h e = absurd (z e)
       go found.NoLeaf h e = absurd (z e)
 
-  pub lowest-small : FrameOf f words keys → (ref n total : ℕ) → lowestOf f words keys ref ≡ found.Leaf n total → n ≤ 4096
-  lowest-small w ref n total e =
-      let l : LeafSeen f words keys (n * 8 + 5) = subst FoundSeen e (edge-seen _ (f .form .limit) ref) in
+  pub lowest-small : FrameOf f words keys → (ref : ℕ) {n total : ℕ} {x : Found} → x ≡ lowestOf f words keys ref → x ≡ found.Leaf n total → n ≤ 4096
+  lowest-small w ref {n} {total} e q =
+      let l : LeafSeen f words keys (n * 8 + 5) = subst FoundSeen (sym e ∙ q) (edge-seen _ (f .form .limit) ref) in
       omega (arith, ltb-true ((n * 8 + 5) / 8) (getD (f .caps) 5 0) (l .pool), caps-most (framed w) 5 (omega arith))
+
+  pub lowest-fits : FrameOf f words keys → (ref : ℕ) {n total : ℕ} {x : Found} → x ≡ lowestOf f words keys ref → x ≡ found.Leaf n total → Fits w64 n
+  lowest-fits w ref {n} {total} e q = omega (arith, lowest-small w ref {n} {total} e q)

@@ -73,8 +73,8 @@ module _ (tag t : List ℕ) (ref d : ℕ) (upper up : Up) {c : ℕ} (e : c ≡ s
   leaf-forks h k = simp (lt-leb (length tag) (d + c) h, lt-leb (length t) (d + c) k) at leaf-by
 
 -- ── by the first leaf below ──
-pub ref-by : (a b : Found) → a ≡ b → leafRef b ≡ leafRef a
-ref-by a b e = ap leafRef (sym e)
+pub ref-by : (a : Found) {x b : Found} {ref : ℕ} → x ≡ a → x ≡ b → ref ≡ leafRef b → ref ≡ leafRef a
+ref-by a e q h = h ∙ ap leafRef (sym q ∙ e)
 
 module _ (f : Frame) (words keys tag : List ℕ) (d full : ℕ) where
   pub below-none : (a : Found) (leaf : ℕ) → leaf ≡ leafRef a → leaf ≡ 0 → Lost ≡ runBelow f words keys tag d full a
@@ -195,10 +195,19 @@ module _ (f : Frame) (words keys tag : List ℕ) (kind : ℕ) (rec : List ℕ) (
 
 -- ── a step, by what is arrived at ──
 module _ (f : Frame) (words keys tag : List ℕ) where
-  pub step-by : (left ref d : ℕ) (upper up : Up) (a : Arrival) → arrivalAt f words keys left (placeAt ref) ≡ a
+  step-by : (left ref d : ℕ) (upper up : Up) (a : Arrival) → arrivalAt f words keys left (placeAt ref) ≡ a
       → stepFrom f words keys tag ref d upper up a ≡ stepOf f words keys tag left ref d upper up
   unfolding stepOf
   step-by left ref d upper up a e = ap (stepFrom f words keys tag ref d upper up) (sym e)
+
+  -- x is what was arrived at
+  module _ (left ref d : ℕ) (upper up : Up) {x : Arrival} (ex : x ≡ arrivalAt f words keys left (placeAt ref)) where
+    pub step-as : {a : Arrival} {o : Step} → x ≡ a → o ≡ stepFrom f words keys tag ref d upper up a → o ≡ stepOf f words keys tag left ref d upper up
+    step-as {a} e h = h ∙ step-by left ref d upper up a (sym ex ∙ e)
+
+    pub step-leaf : {n start : ℕ} {t : List ℕ} {p : Point} → x ≡ arrival.Leaf n start → t ≡ tagAt f words keys ref → p ≡ leafPoint tag t ref d upper up
+        → Final p ≡ stepOf f words keys tag left ref d upper up
+    step-leaf e et h = step-as e (ap Final (h ∙ ap (λ (l : List ℕ). leafPoint tag l ref d upper up) et))
 
   -- a step past a run goes no deeper than the tag is long, and to a child that is there
   module _ (kind : ℕ) (rec : List ℕ) (ref d : ℕ) (up : Up) where

@@ -1,7 +1,7 @@
 -- `apply::apply_new` meets its contract: the tree, then the leaf and the list, then the tag count, which was read first.
 use native.Mathlib.Omega.{arith}
 use Rattle.points.proofs.Here.{leaf-small}
-use Rattle.insert.proofs.Cases.{words-long, still-long, new-made}
+use Rattle.insert.proofs.Cases.{words-long, still-long, site-for, ref-some, new-made}
 use borrow.Author.Needs.{needs}
 use Rattle.insert.proofs.apply.apply_new.Statement.{statement}
 use Rattle.insert.proofs.apply.apply_new.Tie as tie
@@ -13,7 +13,7 @@ reference-to-requires : tie.Need-reference-to-requires
 reference-to-requires c κs = (omega arith, search leaf-small)
 
 hang-requires : tie.Need-hang-requires
-hang-requires c κs = (search, (search, omega arith))
+hang-requires c κs = (search, (search site-for, search ref-some))
 
 set-trailer-requires : tie.Need-set-trailer-requires
 set-trailer-requires c κs = (search still-long, omega arith)

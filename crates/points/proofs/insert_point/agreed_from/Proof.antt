@@ -5,10 +5,10 @@ use Rattle.points.proofs.insert_point.agreed_from.Statement.{statement}
 use Rattle.points.proofs.insert_point.agreed_from.Tie as tie
 
 returns : tie.Need-returns
-returns c = let s = c .before .before .before .args in agreed-none (s .tag .now) (s .t .now) (s .depth) (c .if1 .taken)
+returns c = search agreed-none
 
 returns-2 : tie.Need-returns-2
-returns-2 c = let s = c .before .before .before .before .before .before .args in agreed-by (s .tag .now) (s .t .now) (s .depth) (c .shared-bytes .ensures)
+returns-2 c = search agreed-by
 
 pub agreed-from-spec : {M : Type 1} → statement M
 agreed-from-spec =

@@ -8,10 +8,10 @@ lookup-child-requires : tie.Need-lookup-child-requires
 lookup-child-requires c κs = let w = c .before .pre in ((w .low, w .high), (w .long, inner-rule _ _ _ (w .ok) .few))
 
 returns : tie.Need-returns
-returns c = let s = c .before .before .before .args in child-none (s .up) (s .reference) (s .byte) (s .depth) _ _ (c .before .lookup-child .ensures) (c .if1 .taken)
+returns c = search child-none
 
 returns-2 : tie.Need-returns-2
-returns-2 c = let s = c .before .before .before .args in child-some (s .up) (s .reference) (s .byte) (s .depth) _ _ (c .before .lookup-child .ensures) (c .if1 .left)
+returns-2 c = search child-some
 
 pub child-step-spec : {M : Type 1} → statement M
 child-step-spec = tie.close (tie.spec lookup-child-requires returns returns-2)
