@@ -19,7 +19,11 @@ use Rattle.pools.specs.declared.pools.Free.the-variants as free
 use Rattle.points.specs.Point.{pointOf}
 use Rattle.points.specs.declared.insert_point.Up.{Up}
 use Rattle.points.specs.declared.insert_point.Point.{Point}
-use Rattle.insert.specs.Plan.{growChoice, intoChoice, forkWith, forkChoice, sitePlan, leafPlan, pointPlan, planOf}
+use Rattle.points.specs.declared.insert_point.Point.the-variants.{Into}
+use Rattle.points.specs.There.{InnerHere, PointThere}
+use Rattle.range.specs.declared.After.{After}
+use Rattle.insert.specs.Plan.{growChoice, intoChoice, forkWith, forkChoice, newPlan, sitePlan, leafPlan, pointPlan, planOf}
+use Rattle.insert.specs.declared.plan.Site.{Site}
 use Rattle.insert.specs.declared.plan.Site.the-variants.{Root, Add}
 use Rattle.insert.specs.declared.plan.Choice.{Choice}
 use Rattle.insert.specs.declared.plan.Choice.the-variants.{At}
@@ -104,3 +108,24 @@ module _ (f : Frame) (words keys tag : List ℕ) {root : ℕ} (e : root ≡ root
 
   pub plan-point : {x : Point} {p : Plan} → (root ≡ 0 → ⊥) → x ≡ pointOf f words keys tag root → p ≡ pointPlan f words keys tag x → p ≡ planOf f words keys tag
   plan-point z q u = u ∙ ap (pointPlan f words keys tag) q ∙ plan-by (ne-eqb root 0 z)
+
+-- ── a plan is that of the point, the choice and the stop that were found ──
+module _ (f : Frame) (words keys tag : List ℕ) {o : Plan} where
+  pub point-as : {x y : Point} → x ≡ y → o ≡ pointPlan f words keys tag y → o ≡ pointPlan f words keys tag x
+  point-as e h = h ∙ ap (pointPlan f words keys tag) (sym e)
+
+  pub leaf-as : {x y : Choice} → x ≡ y → o ≡ leafPlan f words keys tag x → o ≡ leafPlan f words keys tag y
+  leaf-as e h = h ∙ ap (leafPlan f words keys tag) e
+
+  pub site-as : (leaf : ℕ) {x y : Choice} → x ≡ y → o ≡ sitePlan f words keys tag leaf y → o ≡ sitePlan f words keys tag leaf x
+  site-as leaf e h = h ∙ ap (sitePlan f words keys tag leaf) (sym e)
+
+-- x is the answer of the walk along the list
+pub new-as : (f : Frame) (words : List ℕ) (site : Site) (leaf : ℕ) {x y z : After} {o : Plan} → x ≡ y → x ≡ z → o ≡ newPlan f words site leaf z
+    → o ≡ newPlan f words site leaf y
+new-as f words site leaf e q h = h ∙ ap (newPlan f words site leaf) (sym q ∙ e)
+
+-- the record that the point names is there
+pub into-there : (f : Frame) (words keys tag : List ℕ) {x : Point} {up : Up} {ref byte : ℕ} → x ≡ Into up ref byte → PointThere f words keys tag x
+    → InnerHere f words (placeAt ref)
+into-there f words keys tag e h = subst (PointThere f words keys tag) e h .here

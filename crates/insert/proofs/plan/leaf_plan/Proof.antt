@@ -10,10 +10,10 @@ cast-site-plan : tie.Need-cast-site-plan
 cast-site-plan c = omega (arith, c .if1 .taken, caps-most (framed (c .before .before .before .before .before .before .pre)) 5 (omega arith))
 
 returns : tie.Need-returns
-returns c = leaf-free _ _ _ _ _ (c .before .before .lowest-free .ensures) (c .before .if1 .taken) (c .site-plan .ensures)
+returns c = search leaf-free
 
 returns-2 : tie.Need-returns-2
-returns-2 c = leaf-none _ _ _ _ _ (c .before .lowest-free .ensures) (c .if1 .left)
+returns-2 c = search leaf-none
 
 pub leaf-plan-spec : {M : Type 1} → statement M
 leaf-plan-spec =

@@ -1,19 +1,14 @@
 -- `site_plan` meets its contract, by the cases of the choice.
-use mathlib.Core.Path.{sym, ap, _∙_}
-use Rattle.insert.specs.Plan.{sitePlan}
+use Rattle.insert.proofs.Planning.{site-as}
 use borrow.Author.Needs.{needs}
 use Rattle.insert.proofs.plan.site_plan.Statement.{statement}
 use Rattle.insert.proofs.plan.site_plan.Tie as tie
 
 returns : tie.Need-returns
-returns c =
-    let a = c .before .before .before .before .before .before .before .args in
-    c .new-plan .ensures ∙ ap (sitePlan (a .f) (a .words .now) (a .keys .now) (a .tag .now) (a .leaf)) (sym (c .before .before .choice .given .1))
+returns c = search site-as
 
 returns-2 : tie.Need-returns-2
-returns-2 c =
-    let a = c .before .before .before .before .before .args in
-    ap (sitePlan (a .f) (a .words .now) (a .keys .now) (a .tag .now) (a .leaf)) (sym (c .enum-told .given .1))
+returns-2 c = search site-as
 
 pub site-plan-spec : {M : Type 1} → statement M
 site-plan-spec =
