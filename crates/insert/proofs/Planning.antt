@@ -20,7 +20,7 @@ use Rattle.points.specs.Point.{pointOf}
 use Rattle.points.specs.declared.insert_point.Up.{Up}
 use Rattle.points.specs.declared.insert_point.Point.{Point}
 use Rattle.points.specs.declared.insert_point.Point.the-variants.{Into}
-use Rattle.points.specs.There.{InnerHere, PointThere}
+use Rattle.points.specs.There.{InnerFitsAt, PointThere}
 use Rattle.range.specs.declared.After.{After}
 use Rattle.insert.specs.Plan.{growChoice, intoChoice, forkWith, forkChoice, newPlan, sitePlan, leafPlan, pointPlan, planOf}
 use Rattle.insert.specs.declared.plan.Site.{Site}
@@ -127,5 +127,5 @@ new-as f words site leaf e q h = h ∙ ap (newPlan f words site leaf) (sym q ∙
 
 -- the record that the point names is there
 pub into-there : (f : Frame) (words keys tag : List ℕ) {x : Point} {up : Up} {ref byte : ℕ} → x ≡ Into up ref byte → PointThere f words keys tag x
-    → InnerHere f words (placeAt ref)
+    → InnerFitsAt f words (placeAt ref)
 into-there f words keys tag e h = subst (PointThere f words keys tag) e h .here

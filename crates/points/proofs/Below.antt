@@ -92,4 +92,4 @@ module _ (f : Frame) (words keys : List ℕ) where
       omega (arith, ltb-true ((n * 8 + 5) / 8) (getD (f .caps) 5 0) (l .pool), caps-most (framed w) 5 (omega arith))
 
   pub lowest-fits : FrameOf f words keys → (ref : ℕ) {n total : ℕ} {x : Found} → x ≡ lowestOf f words keys ref → x ≡ found.Leaf n total → Fits w64 n
-  lowest-fits w ref {n} {total} e q = omega (arith, lowest-small w ref {n} {total} e q)
+  lowest-fits w ref {n} {total} e q = omega (arith, lowest-small w ref e q)

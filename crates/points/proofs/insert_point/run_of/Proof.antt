@@ -1,11 +1,12 @@
 -- `insert_point::run_of` meets its contract: a run of eight bytes or fewer is stored whole, so its stored length is its full one.
 use Rattle.points.proofs.Steps.{run-long, run-short}
+use native.Mathlib.Omega.{arith}
 use borrow.Author.Needs.{needs}
 use Rattle.points.proofs.insert_point.run_of.Statement.{statement}
 use Rattle.points.proofs.insert_point.run_of.Tie as tie
 
 returns : tie.Need-returns
-returns c = search run-long
+returns c = run-long _ _ _ _ _ _ _ (omega (arith, c .before .if1 .taken)) (c .run-below .ensures)
 
 returns-2 : tie.Need-returns-2
 returns-2 c = search run-short
