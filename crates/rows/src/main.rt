@@ -10,65 +10,42 @@ use edits::representation as edit;
 use edits::representation::Change;
 use frames::form;
 use frames::form::Form;
+use frames::frame;
 use frames::kind;
-use libc::STDOUT_FILENO;
 use prefix::Prefix;
 use records::representation;
 use records::representation::Entry;
 use steps::Line;
 use steps::Step;
 
-fn say(text: &[u8]) {
-    io::write_all(STDOUT_FILENO, text);
-}
-
-fn say_number(n: u32) {
-    io::print_decimal(STDOUT_FILENO, n as u64);
-}
-
-// A child as byte:reference.
-fn say_child(byte: u32, reference: u32) {
-    say_number(byte);
-    say(b":");
-    say_number(reference);
-}
-
 // A child, or that there is none.
 fn say_entry(e: Entry) {
     let Entry::Child(byte, reference) = e else {
-        say(b"nothing");
+        text::say(b" = nothing");
         return;
     };
-    say_child(byte, reference);
+    text::numbers(b" = #:#", byte as u64, reference as u64, 0);
 }
 
 // A reference, or that there is none.
 fn say_reference(reference: u32) {
     if reference == 0 {
-        say(b"nothing");
+        text::say(b" = nothing");
         return;
     }
-    say_number(reference);
+    text::labelled(b" = ", reference as u64);
 }
 
-// A stored prefix byte as the letter that it is.
-fn say_letter(word: u32) {
-    let letter = [(word % 256) as u8];
-    io::write_all(STDOUT_FILENO, &letter);
-}
-
-// The prefix: its full length, then the letters that are stored.
-fn say_prefix(p: Prefix)
+// The letters of a prefix that are stored.
+fn say_stored(p: Prefix)
     requires { ⌜ length (p .stored) ≡ 8 ⌝ }
 {
-    say_number(p.full.0);
-    say(b" ");
     let s = prefix::stored_len(p.full);
     let k = s.0 as usize;
     let stored = p.stored;
     let mut i = 0;
     while i < k {
-        say_letter(stored[i]);
+        text::letter((stored[i] % 256) as u8);
         i += 1;
     }
 }
@@ -77,8 +54,7 @@ fn say_prefix(p: Prefix)
 fn say_slot(rec: &[u32], form: Form, byte: u32) {
     let at = form::header_of(form) + byte as usize;
     if at < rec.len() {
-        say(b"@");
-        say_number(rec[at]);
+        text::labelled(b"@", frame::num(rec, at) as u64);
     }
 }
 
@@ -105,8 +81,7 @@ fn say_from(rec: &[u32], form: Form, kind: u32, byte: usize) -> usize
     let Entry::Child(b, reference) = representation::child_from(form, rec, kind, byte) else {
         return 256;
     };
-    say(b" ");
-    say_child(b, reference);
+    text::numbers(b" #:#", b as u64, reference as u64, 0);
     if kind == 3 {
         say_slot(rec, form, b);
     }
@@ -127,13 +102,11 @@ fn say_row(rec: &[u32], form: Form, kind: u32)
 fn say_record(rec: &[u32], form: Form, kind: u32)
     requires { ⌜ InnerFits form kind (now rec) ⌝ }
 {
-    say(b"kind ");
-    say_number(rec[records::header::KIND]);
-    say(b", prefix ");
-    say_prefix(records::header::prefix_at(form, rec));
-    say(b", ");
-    say_number(rec[records::header::CHILDREN]);
-    say(b" children:");
+    let p = records::header::prefix_at(form, rec);
+    text::numbers(b" -> kind #, prefix # ", kind as u64, p.full.0 as u64, 0);
+    say_stored(p);
+    let n = records::header::child_count(rec);
+    text::numbers(b", # children:", n as u64, 0, 0);
     say_row(rec, form, kind);
 }
 
@@ -163,10 +136,14 @@ fn child_at(rec: &[u32], form: Form, kind: u32, byte: u8) -> u32
     representation::lookup_child(form, rec, kind, byte)
 }
 
-// The answer to a question about a record.
+// The record after a change, or the answer to a question about it.
 fn answer(rec: &[u32], form: Form, kind: u32, s: Step)
     requires { ⌜ InnerFits form kind (now rec) ⌝ }
 {
+    if s.op <= steps::MOVE {
+        say_record(rec, form, kind);
+        return;
+    }
     if s.op == steps::LOOKUP {
         say_reference(child_at(rec, form, kind, s.byte));
         return;
@@ -180,27 +157,6 @@ fn answer(rec: &[u32], form: Form, kind: u32, s: Step)
         return;
     }
     say_entry(representation::child_from(form, rec, kind, s.byte as usize));
-}
-
-// The record in the room after a change, or the answer to a question about it.
-fn say_room(room: &[u32], s: Step) {
-    let kind = kind_at(room);
-    if kind == 0 {
-        return;
-    }
-    let form = form_one();
-    let e = form::record_words(form, kind);
-    if room.len() < e {
-        return;
-    }
-    if !representation::inner_ok(form, &room[0..e], kind) {
-        return;
-    }
-    if s.op <= steps::MOVE {
-        say_record(&room[0..e], form, kind);
-    } else {
-        answer(&room[0..e], form, kind, s);
-    }
 }
 
 // A record of this kind with this prefix and these children, at the front of a cleared room; false where they do not fit.
@@ -343,8 +299,8 @@ fn change(rec: &mut [u32], form: Form, kind: u32, s: Step) -> bool
     set_run(rec, form, s.byte, s.number)
 }
 
-// One change of the record in the room.
-fn change_room(room: &mut [u32], s: Step) -> bool {
+// One change of the record in the room, or what is said of it; false where there is none, or the change is refused.
+fn on_record(room: &mut [u32], s: Step, changing: bool) -> bool {
     let kind = kind_at(room);
     if kind == 0 {
         return false;
@@ -357,7 +313,11 @@ fn change_room(room: &mut [u32], s: Step) -> bool {
     if !representation::inner_ok(form, &room[0..e], kind) {
         return false;
     }
-    change(&mut room[0..e], form, kind, s)
+    if changing {
+        return change(&mut room[0..e], form, kind, s);
+    }
+    answer(&room[0..e], form, kind, s);
+    true
 }
 
 // The step for the next byte, with the next reference of the same kind.
@@ -377,7 +337,7 @@ fn changes(room: &mut [u32], first: Step) -> bool {
     let mut s = first;
     let mut left = first.number;
     while 0 < left {
-        if !change_room(room, s) {
+        if !on_record(room, s, true) {
             return false;
         }
         s = next(s);
@@ -395,105 +355,40 @@ fn run(room: &mut [u32], s: Step) -> bool {
         return moved(room, s.number);
     }
     if s.op == steps::PREFIX {
-        return change_room(room, s);
+        return on_record(room, s, true);
+    }
+    if steps::MOVE < s.op {
+        return true;
     }
     changes(room, s)
 }
 
-// The step's word.
-fn say_op(op: u32) {
-    if op == steps::NEW {
-        say(b"new kind ");
-    }
-    if op == steps::ADD {
-        say(b"add ");
-    }
-    if op == steps::REPLACE {
-        say(b"replace ");
-    }
-    if op == steps::REMOVE {
-        say(b"remove ");
-    }
-    if op == steps::PREFIX {
-        say(b"prefix of ");
-    }
-    if op == steps::MOVE {
-        say(b"move to kind ");
-    }
-}
-
-// A change as it is asked.
-fn say_change(s: Step) {
-    say_op(s.op);
-    if s.op == steps::NEW {
-        say_number(s.number);
-        say(b" of ");
-        say_child(steps::OLD_BYTE as u32, steps::OLD_REFERENCE);
-        say(b" and ");
-        say_child(s.byte as u32, s.reference);
+// A step as it is asked, by its place in the list of all; 104:5 is the child that stood there before.
+fn say_step(s: Step) {
+    let forms =
+        b"new kind # of 104:5 and #:#|add #:#|replace #:#|remove #|prefix of #|move to kind #|lookup #|lowest|highest|at or after #";
+    let form = text::read::word(forms, s.op, b'|');
+    let byte = s.byte as u64;
+    let reference = s.reference as u64;
+    if (s.op == steps::NEW) | (s.op == steps::MOVE) {
+        text::numbers(form, s.number as u64, byte, reference);
         return;
     }
-    if s.op == steps::MOVE {
-        say_number(s.number);
-        return;
-    }
-    say_number(s.byte as u32);
-    if s.op <= steps::REPLACE {
-        say(b":");
-        say_number(s.reference);
-    }
+    text::numbers(form, byte, reference, 0);
     if 1 < s.number {
-        say(b", ");
-        say_number(s.number);
-        say(b" in a row");
+        text::numbers(b", # in a row", s.number as u64, 0, 0);
     }
-}
-
-// A change, and the record that it leaves.
-fn show_change(room: &mut [u32], s: Step) {
-    say_change(s);
-    say(b" -> ");
-    if run(room, s) {
-        say_room(room, s);
-    } else {
-        say(b"refused");
-    }
-    say(b"\n");
-}
-
-// A question as it is asked.
-fn say_question(s: Step) {
-    if s.op == steps::LOWEST {
-        say(b"lowest");
-        return;
-    }
-    if s.op == steps::HIGHEST {
-        say(b"highest");
-        return;
-    }
-    if s.op == steps::LOOKUP {
-        say(b"lookup ");
-    } else {
-        say(b"at or after ");
-    }
-    say_number(s.byte as u32);
-}
-
-// A question, and its answer.
-fn show_answer(room: &[u32], s: Step) {
-    say_question(s);
-    say(b" = ");
-    say_room(room, s);
-    say(b"\n");
 }
 
 // A step's line.
 fn show(room: &mut [u32], s: Step) {
-    if s.op <= steps::MOVE {
-        show_change(room, s);
-    } else {
-        show_answer(room, s);
+    say_step(s);
+    if !run(room, s) {
+        text::say(b" -> refused\n");
+        return;
     }
+    on_record(room, s, false);
+    text::say(b"\n");
 }
 
 fn step_of(line: Line) -> Step {

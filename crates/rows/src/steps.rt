@@ -1,26 +1,26 @@
 // The steps that the program runs.
 ghost use Prim.Native.Nat.{_<_};
 
-// What a step does.
-pub const NEW: u32 = 1; // a new branching of this kind: the child that stood there before, and the step's
+// What a step does: changes first, then questions.
+pub const NEW: u32 = 0; // a new branching of this kind: the child that stood there before, and the step's
 
-pub const ADD: u32 = 2; // so many children for the bytes from this one on, their references in a row too
+pub const ADD: u32 = 1; // so many children for the bytes from this one on, their references in a row too
 
-pub const REPLACE: u32 = 3; // another reference for each of so many
+pub const REPLACE: u32 = 2; // another reference for each of so many
 
-pub const REMOVE: u32 = 4; // so many taken out
+pub const REMOVE: u32 = 3; // so many taken out
 
-pub const PREFIX: u32 = 5; // another prefix: so many times this byte
+pub const PREFIX: u32 = 4; // another prefix: so many times this byte
 
-pub const MOVE: u32 = 6; // the record moved into this kind
+pub const MOVE: u32 = 5; // the record moved into this kind
 
-pub const LOOKUP: u32 = 7; // asks for the reference for the byte
+pub const LOOKUP: u32 = 6; // asks for the reference for the byte
 
-pub const LOWEST: u32 = 8;
+pub const LOWEST: u32 = 7;
 
-pub const HIGHEST: u32 = 9;
+pub const HIGHEST: u32 = 8;
 
-pub const FROM: u32 = 10; // asks for the first child at or after the byte
+pub const FROM: u32 = 9; // asks for the first child at or after the byte
 
 // The child that stood there before a new branching.
 pub const OLD_BYTE: u8 = 104;

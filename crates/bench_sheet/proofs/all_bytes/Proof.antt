@@ -7,11 +7,11 @@ use Rattle.bench_sheet.proofs.all_bytes.Statement.{statement}
 use Rattle.bench_sheet.proofs.all_bytes.Tie as tie
 
 abbrev Inv-loop : tie.InvT-loop
-Inv-loop words₀ keys₀ way n₀ kind₀ byte₀ t7 words keys n kind byte =
+Inv-loop words₀ keys₀ op n₀ kind₀ byte₀ t7 words keys n kind byte =
     ((length words ≡ length words₀) × (length keys ≡ length keys₀)) × ((byte ≤ 256) × (n ≤ byte))
 
 abbrev μ-loop : tie.MeasureT-loop
-μ-loop words₀ keys₀ way n₀ kind₀ byte₀ t7 words keys n kind byte = 256 - byte
+μ-loop words₀ keys₀ op n₀ kind₀ byte₀ t7 words keys n kind byte = 256 - byte
 
 pub all-bytes-spec : {M : Type 1} → statement M
 all-bytes-spec =
@@ -29,7 +29,6 @@ all-bytes-spec =
     (λ c. search needs)
     (λ c. search needs)
     (λ c. search needs)
-    (λ c κs. search needs)
     (λ c. search needs)
     (λ c κs. search needs)
     (λ c. search needs)

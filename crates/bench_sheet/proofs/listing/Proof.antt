@@ -5,10 +5,10 @@ use Rattle.bench_sheet.proofs.listing.Statement.{statement}
 use Rattle.bench_sheet.proofs.listing.Tie as tie
 
 abbrev Inv-loop : tie.InvT-loop
-Inv-loop words keys a₀ rising₀ n₀ t7 a rising n = (n ≤ 300) × (rising ≤ n)
+Inv-loop words keys a₀ rising₀ n₀ t8 a rising n = (n ≤ 300) × (rising ≤ n)
 
 abbrev μ-loop : tie.MeasureT-loop
-μ-loop words keys a₀ rising₀ n₀ t7 a rising n = 300 - n
+μ-loop words keys a₀ rising₀ n₀ t8 a rising n = 300 - n
 
 pub listing-spec : {M : Type 1} → statement M
 listing-spec =
@@ -19,10 +19,7 @@ listing-spec =
     (λ c κs. search needs)
     (λ c. search needs)
     (λ c κs. search needs)
-    (λ c. search needs)
     (λ c κs. search needs)
-    (λ c κs. search needs)
-    (λ c. search needs)
     (λ c. search needs)
     (λ c. search needs)
     (λ c. search needs)

@@ -1,19 +1,18 @@
--- `say_prefix` is safe: of a prefix at most eight bytes are stored, as many as the array has.
+-- `word` is safe: each turn passes one word, and no place is past the end of the line.
 use borrow.Author.Needs.{needs}
+use Prim.Native.Nat.{_≤_}
 use lib.ListN.{length}
-use mathlib.Core.Path.{_≡_}
-use Prim.Native.Nat.{_≤_, _-_}
-use Rattle.rows.proofs.say_prefix.Statement.{statement}
-use Rattle.rows.proofs.say_prefix.Tie as tie
+use Rattle.text.proofs.read.word.Statement.{statement}
+use Rattle.text.proofs.read.word.Tie as tie
 
 abbrev Inv-loop : tie.InvT-loop
-Inv-loop k stored i₀ i = (length stored ≡ 8) × ((k ≤ 8) × (i ≤ k))
+Inv-loop line n mark start₀ left₀ start left = start ≤ length line
 
 abbrev μ-loop : tie.MeasureT-loop
-μ-loop k stored i₀ i = k - i
+μ-loop line n mark start₀ left₀ start left = left
 
-pub say-prefix-spec : {M : Type 1} → statement M
-say-prefix-spec =
+pub word-spec : {M : Type 1} → statement M
+word-spec =
     tie.close
     (tie.spec
     Inv-loop
@@ -22,7 +21,6 @@ say-prefix-spec =
     (λ c. search needs)
     (λ c κs. search needs)
     (λ c κs. search needs)
-    (λ c. search needs)
     (λ c. search needs)
     (λ c. search needs)
     (λ c. search needs)
