@@ -3,12 +3,13 @@
 ghost use Prim.Native.Nat.{_≤_, _<_, _^_};
 use super::line;
 use super::say;
+use frames::form;
+use frames::frame;
+use frames::kind;
+use records::header;
 
-// The kind of leaves.
-const LEAF: u32 = 5;
-
-// Where the body of an inner record begins.
-const BODY: usize = 11;
+// Where the stored bytes of a prefix begin.
+const STORED: usize = 3;
 
 // Word i from a place on.
 fn word(words: &[u32], at: usize, i: usize) -> u32 {
@@ -29,42 +30,30 @@ pub fn trailer(words: &[u32], i: usize) -> u32 {
     word(words, words.len() - 16, i)
 }
 
-// The words of so many records of a kind.
-fn sizes(kind: u32, n: usize) -> usize
-    requires { ⌜ n < 2 ^ 32 ⌝ }
-    ensures { λ r. ⌜ r < 2 ^ 41 ⌝ }
-{
-    match kind {
-        1 => 19 * n,
-        2 => 43 * n,
-        3 => 315 * n,
-        4 => 267 * n,
-        _ => 6 * n,
+// The first word of the record that a reference names; the end of the words where no pool has it.
+fn record(words: &[u32], keys: &[u8], reference: u32) -> usize {
+    if !frame::frame_fits(words, keys) {
+        return words.len();
     }
+    let f = frame::frame_at(words, keys);
+    if !frame::in_pool(f, reference) {
+        return words.len();
+    }
+    frame::start_at(f, reference)
 }
 
-// The first word of the record that a reference names.
-fn record(words: &[u32], reference: u32) -> usize {
-    let kind = reference % 8;
-    let back = trailer(words, kind as usize) as usize + 16;
-    if words.len() < back {
-        return 0;
-    }
-    words.len() - back + sizes(kind, (reference / 8) as usize)
-}
-
-// 1 for a record in use, else 0.
-fn is_used(words: &[u32], reference: u32) -> u64
+// 1 for a record in use, else 0. Where it is free, its word 0 is 0; an inner record has its kind there, and a leaf 1.
+fn is_used(words: &[u32], keys: &[u8], reference: u32) -> u64
     ensures { λ r. ⌜ r ≤ 1 ⌝ }
 {
-    if word(words, record(words, reference), 0) == 0 {
+    if word(words, record(words, keys, reference), header::KIND) == 0 {
         return 0;
     }
     1
 }
 
 // How many records of a kind are in use.
-fn in_use(words: &[u32], kind: u32) -> u64
+fn in_use(words: &[u32], keys: &[u8], kind: u32) -> u64
     requires { ⌜ kind ≤ 5 ⌝ }
     ensures { λ r. ⌜ r ≤ 4096 ⌝ }
 {
@@ -72,130 +61,128 @@ fn in_use(words: &[u32], kind: u32) -> u64
     let mut n: u64 = 0;
     let mut i: u32 = 0;
     while i < room {
-        n = n + is_used(words, 8 * i + kind);
+        n = n + is_used(words, keys, 8 * i + kind);
         i += 1;
     }
     n
 }
 
 // The check's answer for a sound block: how many leaves and how many inner records are in use.
-pub fn used(words: &[u32]) {
-    say::labelled(b"0 leaves ", in_use(words, LEAF));
-    let small = in_use(words, 1) + in_use(words, 2);
-    let large = in_use(words, 3) + in_use(words, 4);
-    say::labelled(b" inner ", small + large);
+pub fn used(words: &[u32], keys: &[u8]) {
+    let leaves = in_use(words, keys, frame::LEAF);
+    let small = in_use(words, keys, 1) + in_use(words, keys, 2);
+    let large = in_use(words, keys, 3) + in_use(words, keys, 4);
+    text::numbers(b"0 leaves # inner #", leaves, small + large, 0);
 }
 
 // The stored bytes of a prefix of this length, - for none.
 fn stored(words: &[u32], at: usize, length: u32) {
     if length == 0 {
-        say::say(b"-");
+        text::say(b"-");
     }
     let mut i: u32 = 0;
     while i < 8 {
         if length <= i {
             return;
         }
-        say::byte((word(words, at, 3 + i as usize) % 256) as u8);
+        say::byte((word(words, at, STORED + i as usize) % 256) as u8);
         i += 1;
     }
 }
 
-// The kind and the number of children.
-fn told_kind(words: &[u32], at: usize) {
-    say::labelled(b"k", word(words, at, 0) as u64);
-    say::labelled(b" n", word(words, at, 1) as u64);
-    say::say(b" ");
-}
-
-// A branching up to its first child.
+// A branching up to its first child; its kind and its number of children where these are told.
 fn head(words: &[u32], at: usize, told: u32) {
-    say::say(b"[");
+    let length = word(words, at, header::FULL);
     if (told == line::KINDS) | (told == line::SLOTS) {
-        told_kind(words, at);
+        let kind = word(words, at, header::KIND) as u64;
+        let n = word(words, at, header::CHILDREN) as u64;
+        text::numbers(b"[k# n# # ", kind, n, length as u64);
+    } else {
+        text::numbers(b"[# ", length as u64, 0, 0);
     }
-    let length = word(words, at, 2);
-    say::number(length as u64);
-    say::say(b" ");
     stored(words, at, length);
 }
 
-// The kind of a record.
-fn kind(words: &[u32], at: usize) -> usize
-    ensures { λ r. ⌜ r < 8 ⌝ }
+// Where the body of an inner record begins.
+fn body() -> usize
+    ensures { λ r. ⌜ r < 2 ^ 34 ⌝ }
 {
-    (word(words, at, 0) % 8) as usize
+    form::header_of(form::form_of(1))
 }
 
-// How many places for children a record has.
-fn places(words: &[u32], at: usize) -> usize
-    ensures { λ r. ⌜ r ≤ 256 ⌝ }
-{
-    match kind(words, at) {
-        1 => 4,
-        2 => 16,
-        _ => 256,
+// How many children a record of a kind may have.
+fn children(kind: u32) -> u32 {
+    if kind == 0 {
+        return 0;
     }
+    if 4 < kind {
+        return 0;
+    }
+    kind::row_of(kind).children
 }
 
-// The reference in a slot of kind 3, which are numbered from 1.
+// How many places for children a record has: kinds 1 and 2 one for each child, the others one for each byte.
+fn places(kind: u32) -> u32 {
+    if kind <= 2 {
+        return children(kind);
+    }
+    256
+}
+
+// The reference in a slot of kind 3, which are numbered from 1 and stand after a number for each byte.
 fn in_slot(words: &[u32], at: usize, slot: u32) -> u32 {
     if slot == 0 {
         return 0;
     }
-    word(words, at, BODY + 255 + slot as usize)
+    word(words, at, body() + 255 + slot as usize)
 }
 
 // The reference to the child at place i of a record, 0 for none.
-fn child(words: &[u32], at: usize, i: usize) -> u32
-    requires { ⌜ i ≤ 256 ⌝ }
-{
-    let body = BODY + i;
-    match kind(words, at) {
-        1 => word(words, at, body + 4),
-        2 => word(words, at, body + 16),
-        3 => in_slot(words, at, word(words, at, body)),
-        _ => word(words, at, body),
+fn child(words: &[u32], at: usize, kind: u32, i: u32) -> u32 {
+    let place = body() + i as usize;
+    if kind <= 2 {
+        return word(words, at, place + children(kind) as usize);
     }
+    let found = word(words, at, place);
+    if kind == 3 {
+        return in_slot(words, at, found);
+    }
+    found
 }
 
 // A slot as the crate numbers them, from 0.
 fn say_slot(slot: u32) {
     if 0 < slot {
-        say::labelled(b"@", slot as u64 - 1);
+        text::labelled(b"@", slot as u64 - 1);
     }
 }
 
 // The byte of the child at place i, and its slot where that is told.
-fn say_byte(words: &[u32], at: usize, i: usize, told: u32)
-    requires { ⌜ i ≤ 256 ⌝ }
-{
-    let key = word(words, at, BODY + i);
-    say::say(b" ");
-    if kind(words, at) <= 2 {
+fn say_byte(words: &[u32], at: usize, kind: u32, i: u32, told: u32) {
+    let key = word(words, at, body() + i as usize);
+    text::say(b" ");
+    if kind <= 2 {
         say::byte((key % 256) as u8);
         return;
     }
     say::byte((i % 256) as u8);
-    if (told == line::SLOTS) & (kind(words, at) == 3) {
+    if (told == line::SLOTS) & (kind == 3) {
         say_slot(key);
     }
 }
 
 // The child at place i of a record, after its byte is said; 0 for none.
-fn branch(words: &[u32], at: usize, i: usize, told: u32) -> u32
-    requires { ⌜ i ≤ 256 ⌝ }
-{
-    let below = child(words, at, i);
+fn branch(words: &[u32], at: usize, kind: u32, i: u32, told: u32) -> u32 {
+    let below = child(words, at, kind, i);
     if below != 0 {
-        say_byte(words, at, i, told);
-        say::say(b":");
+        say_byte(words, at, kind, i, told);
+        text::say(b":");
     }
     below
 }
 
 fn tail() {
-    say::say(b"]");
+    text::say(b"]");
 }
 
 // The tree below a reference, down to so many records; 0 draws nothing.
@@ -206,16 +193,23 @@ fn draw(words: &[u32], keys: &[u8], told: u32, left: u32, reference: u32) {
     if reference == 0 {
         return;
     }
-    if reference % 8 == LEAF {
+    let kind = reference % 8;
+    if kind == frame::LEAF {
         say::leaf(words, keys, reference / 8);
         return;
     }
-    let at = record(words, reference);
-    let n = places(words, at);
+    let at = record(words, keys, reference);
+    let n = places(kind);
     head(words, at, told);
-    let mut i: usize = 0;
+    let mut i: u32 = 0;
     while i < n {
-        draw(words, keys, told, left - 1, branch(words, at, i, told));
+        draw(
+            words,
+            keys,
+            told,
+            left - 1,
+            branch(words, at, kind, i, told),
+        );
         i += 1;
     }
     tail();
@@ -223,9 +217,9 @@ fn draw(words: &[u32], keys: &[u8], told: u32, left: u32, reference: u32) {
 
 // The whole tree, told as this command asks: at most 64 branchings on a path, and a leaf.
 pub fn tree(words: &[u32], keys: &[u8], told: u32) {
-    let root = trailer(words, 11);
+    let root = trailer(words, frame::ROOT);
     if root == 0 {
-        say::say(b"nothing");
+        text::say(b"nothing");
         return;
     }
     draw(words, keys, told, 65, root);

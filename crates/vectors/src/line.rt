@@ -1,12 +1,9 @@
-// A line of the input, read and taken apart.
+// A line of the input, taken apart.
 ghost use mathlib.Core.Path.{_≡_};
 ghost use Prim.Native.Nat.{_≤_};
 ghost use lib.ListN.{length};
-use super::say;
-use super::text;
-use super::text::Amount;
-use super::text::Stop;
-use libc::STDIN_FILENO;
+use text::read;
+use text::read::Amount;
 
 // The commands by their places in the list of all: three that change, four about a tag, five on the whole block, and the rest.
 pub const RESET: u32 = 0;
@@ -35,10 +32,8 @@ pub const LIST: u32 = 14;
 
 const UNKNOWN: u32 = 16;
 
-// A line that asks for nothing more, and the end of the input.
+// A line that asks for nothing more.
 pub const NOTHING: u32 = 17;
-
-pub const END: u32 = 18;
 
 // A command, how many bytes its tag has, and its total; for a reset the number of tags.
 pub struct Command {
@@ -49,7 +44,7 @@ pub struct Command {
 
 fn is_command(word: &[u8], i: u32) -> bool {
     let all = b"reset i d ge s p next check draw canon kinds slots min max list count";
-    lists::compare::same_bytes(text::word(all, i), word)
+    lists::compare::same_bytes(read::word(all, i, b' '), word)
 }
 
 fn name_of(word: &[u8]) -> u32 {
@@ -77,7 +72,7 @@ fn made(name: u32, length: usize, total: u64) -> Command
 fn numbered(name: u32, length: usize, word: &[u8], most: u64) -> Command
     ensures { λ r. ⌜ r .length ≡ length ⌝ }
 {
-    let Amount::Of(total) = text::number(word) else {
+    let Amount::Of(total) = read::number(word) else {
         return made(UNKNOWN, length, 0);
     };
     if most < total {
@@ -90,13 +85,13 @@ fn numbered(name: u32, length: usize, word: &[u8], most: u64) -> Command
 fn tagged(space: &mut [u8], line: &[u8], name: u32) -> Command
     ensures { λ r. ⌜ r .length ≤ length (now (space .exit)) ⌝ }
 {
-    let word = text::word(line, 1);
-    if !text::is_tag(word) {
+    let word = read::word(line, 1, b' ');
+    if !read::is_tag(word) {
         return made(UNKNOWN, 0, 0);
     }
-    let n = text::read_tag(space, word);
+    let n = read::read_tag(space, word);
     if name == INSERT {
-        return numbered(name, n, text::word(line, 2), u64::MAX);
+        return numbered(name, n, read::word(line, 2, b' '), u64::MAX);
     }
     made(name, n, 0)
 }
@@ -105,9 +100,9 @@ fn tagged(space: &mut [u8], line: &[u8], name: u32) -> Command
 fn parse(space: &mut [u8], line: &[u8]) -> Command
     ensures { λ r. ⌜ r .length ≤ length (now (space .exit)) ⌝ }
 {
-    let name = name_of(text::word(line, 0));
+    let name = name_of(read::word(line, 0, b' '));
     if name == RESET {
-        return numbered(name, 0, text::word(line, 1), 256);
+        return numbered(name, 0, read::word(line, 1, b' '), 256);
     }
     if name <= NEXT {
         return tagged(space, line, name);
@@ -115,62 +110,18 @@ fn parse(space: &mut [u8], line: &[u8]) -> Command
     made(name, 0, 0)
 }
 
-enum Input {
-    Byte(u8),
-    End,
-}
-
-fn next_byte() -> Input {
-    let mut one = [0u8; 1];
-    if libc::read(STDIN_FILENO, &mut one) != 1 {
-        return Input::End;
-    }
-    Input::Byte(one[0])
-}
-
-// The next line with its end, as far as it fits; answers how many bytes it has, 0 after the last line.
-fn read_line(line: &mut [u8]) -> usize
-    ensures { λ r. ⌜ r ≤ length (now (line .exit)) ⌝ }
-{
-    let mut n = 0;
-    while n < line.len() {
-        let Input::Byte(b) = next_byte() else {
-            return n;
-        };
-        text::put(line, n, b);
-        n += 1;
-        if b == b'\n' {
-            return n;
-        }
-    }
-    n
-}
-
-// A line up to its comment: nothing where it has no word, and answered at once where it is no command.
-fn taken(space: &mut [u8], line: &[u8]) -> Command
+// The command of a line up to its comment, with its tag at the front of the space: nothing where it has no word, and answered at once where it is no command.
+pub fn taken(space: &mut [u8], line: &[u8]) -> Command
     ensures { λ r. ⌜ r .length ≤ length (now (space .exit)) ⌝ }
 {
-    let end = text::find(line, 0, Stop::Comment);
-    let words = &line[0..end];
-    if text::word(words, 0).len() == 0 {
+    let words = read::before(line, b'#');
+    if read::word(words, 0, b' ').len() == 0 {
         return made(NOTHING, 0, 0);
     }
     let c = parse(space, words);
     if c.name == UNKNOWN {
-        say::unknown();
+        text::say(b"? no such command\n");
         return made(NOTHING, 0, 0);
     }
     c
-}
-
-// The command of the next line, with its tag at the front of the space.
-pub fn next(space: &mut [u8]) -> Command
-    ensures { λ r. ⌜ r .length ≤ length (now (space .exit)) ⌝ }
-{
-    let mut line = [0u8; 1024];
-    let n = read_line(&mut line);
-    if n == 0 {
-        return made(END, 0, 0);
-    }
-    taken(space, &line[0..n])
 }

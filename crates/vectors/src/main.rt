@@ -1,10 +1,11 @@
 // Answers commands, one a line, as bench/blart/src/bin/driver and bench/port.c do; bench/README.md lists them. `stdin` is a sample of the lists that are put to
 // the crate, and `stdout` what the crate itself answered, so the port is compared with the crate's answers where there is no Rust.
 mod draw; // the tree on one line
-mod line; // a line read and taken apart
-mod say; // what is printed
-mod text; // words, tags and numbers
+mod line; // a line taken apart
+mod say; // answers
 
+use frames::frame;
+use libc::STDIN_FILENO;
 use line::Command;
 
 // Room for 256 tags, whatever they are: capacities 256, 64, 16, 5 and 256, so 19 × 256 + 43 × 64 + 315 × 16 + 267 × 5 + 6 × 256 + 16 words, 64 key bytes a leaf,
@@ -25,9 +26,9 @@ fn start(words: &mut [u32], keys: &mut [u8]) -> u32 {
 // Scratch is lent for one call, so each that wants it has its own.
 fn insert(words: &mut [u32], keys: &mut [u8], tag: &[u8], total: u64) {
     let mut scratch = [0u8; SCRATCH];
-    let before = draw::trailer(words, 14);
+    let before = draw::trailer(words, frame::TAGS);
     let a = directory_c::directory_insert(words, keys, &mut scratch, tag, total);
-    say::inserted(a, before, draw::trailer(words, 14));
+    say::inserted(a, before, draw::trailer(words, frame::TAGS));
 }
 
 fn delete(words: &mut [u32], keys: &mut [u8], tag: &[u8]) {
@@ -50,7 +51,7 @@ fn sound(words: &[u32], keys: &[u8]) -> u32 {
 fn next(words: &[u32], keys: &[u8], tag: &[u8]) {
     let held = directory_c::directory_search(words, keys, tag);
     if held.number == 1 {
-        say::say(b"9");
+        text::say(b"9");
         return;
     }
     say::found(
@@ -98,7 +99,7 @@ fn list_length(words: &[u32], keys: &[u8]) -> u32 {
 // The leaves along the list, after their number.
 fn list(words: &[u32], keys: &[u8]) {
     let mut left = list_length(words, keys);
-    say::number(left as u64);
+    text::number(left as u64);
     let mut a = directory_c::directory_minimum(words, keys);
     while 0 < left {
         say::listed(words, keys, a.leaf);
@@ -121,18 +122,18 @@ fn tell(words: &[u32], keys: &[u8], name: u32) {
         list(words, keys);
         return;
     }
-    say::number(draw::trailer(words, 14) as u64);
+    text::number(draw::trailer(words, frame::TAGS) as u64);
 }
 
 // The calls that look at the whole block; one that is not sound is not drawn.
 fn look(words: &[u32], keys: &[u8], name: u32) {
     let number = sound(words, keys);
     if number != 0 {
-        say::number(number as u64);
+        text::number(number as u64);
         return;
     }
     if name == line::CHECK {
-        draw::used(words);
+        draw::used(words, keys);
         return;
     }
     draw::tree(words, keys, name);
@@ -153,7 +154,7 @@ fn read(words: &[u32], keys: &[u8], tag: &[u8], name: u32) {
 
 fn answer(words: &mut [u32], keys: &mut [u8], tag: &[u8], c: Command) {
     if c.name == line::RESET {
-        say::number(start(words, keys) as u64);
+        text::number(start(words, keys) as u64);
         return;
     }
     if c.name == line::INSERT {
@@ -167,36 +168,37 @@ fn answer(words: &mut [u32], keys: &mut [u8], tag: &[u8], c: Command) {
     read(words, keys, tag, c.name);
 }
 
-// One line read and answered; false after the last.
-fn turn(words: &mut [u32], keys: &mut [u8]) -> bool {
+// One line answered.
+fn turn(words: &mut [u32], keys: &mut [u8], asked: &[u8]) {
     let mut space = [0u8; 128];
-    let c = line::next(&mut space);
-    if c.name == line::END {
-        return false;
-    }
+    let c = line::taken(&mut space, asked);
     if c.name == line::NOTHING {
-        return true;
+        return;
     }
     let n = c.length;
     answer(words, keys, &space[0..n], c);
-    say::line_end();
-    true
+    text::say(b"\n");
 }
 
-// A proved loop ends, and nothing says that the input does; so the turns are counted down from a number that no run uses up.
-fn run(words: &mut [u32], keys: &mut [u8]) {
-    let mut turns = u64::MAX;
-    while 0 < turns {
-        if !turn(words, keys) {
+// The lines of the input, which are no more than its bytes.
+fn run(words: &mut [u32], keys: &mut [u8], input: &[u8]) {
+    let mut i: u32 = 0;
+    while i < 65536 {
+        let asked = text::read::word(input, i, b'\n');
+        if asked.len() == 0 {
             return;
         }
-        turns -= 1;
+        turn(words, keys, asked);
+        i += 1;
     }
 }
 
+// The input is read at once, up to 65,536 bytes; the sample has some 34,000.
 fn main() {
     let mut words = [0u32; WORDS];
     let mut keys = [0u8; KEYS];
+    let mut input = io::large_buffer();
+    let n = io::read_full(STDIN_FILENO, &mut input);
     start(&mut words, &mut keys);
-    run(&mut words, &mut keys);
+    run(&mut words, &mut keys, &input[..n]);
 }

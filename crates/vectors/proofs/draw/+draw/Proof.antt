@@ -1,4 +1,4 @@
--- `draw` is safe and ends: each call goes down with one record fewer left, and the loop goes over at most 256 places.
+-- `draw` is safe and ends: each call goes down with one record fewer left, and the loop goes over the places of its record.
 use borrow.Author.Needs.{needs}
 use Prim.Native.Nat.{ℕ, _≤_, _<_, _-_}
 use borrow.Fn.Kinds.{In}
@@ -25,10 +25,10 @@ abbrev draw-below : ℕ → In 2 draw-kinds.ps
 draw-below t = and 2 draw-kinds.ps (falls 2 draw-kinds.ps _<_ μ-draw t) draw.Pre
 
 abbrev draw-Inv-loop : draw-lts.InvT-loop
-draw-Inv-loop words keys told left reference at n i₀ i = (i ≤ n) × ((n ≤ 256) × (0 < left))
+draw-Inv-loop words keys told left reference kind at n i₀ i = (i ≤ n) × (0 < left)
 
 abbrev draw-μ-loop : draw-lts.MeasureT-loop
-draw-μ-loop words keys told left reference at n i₀ i = n - i
+draw-μ-loop words keys told left reference kind at n i₀ i = n - i
 
 draw-draw-requires : (t : ℕ) → draw-lts.Need-draw-requires (
   leaf-reads.Asked,

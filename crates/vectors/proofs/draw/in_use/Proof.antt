@@ -5,10 +5,10 @@ use Rattle.vectors.proofs.draw.in_use.Statement.{statement}
 use Rattle.vectors.proofs.draw.in_use.Tie as tie
 
 abbrev Inv-loop : tie.InvT-loop
-Inv-loop words kind room n₀ i₀ n i = (n ≤ i) × ((i ≤ room) × (room ≤ 4096))
+Inv-loop words keys kind room n₀ i₀ n i = (n ≤ i) × ((i ≤ room) × (room ≤ 4096))
 
 abbrev μ-loop : tie.MeasureT-loop
-μ-loop words kind room n₀ i₀ n i = room - i
+μ-loop words keys kind room n₀ i₀ n i = room - i
 
 pub in-use-spec : {M : Type 1} → statement M
 in-use-spec =
