@@ -1,4 +1,4 @@
-/* A first program with the directory: the flow totals of a small plant, in memory that this program lends.
+/* A first program with the directory: the flow totals of a small plant's pumps, in memory that this program lends, added up by station.
  *
  *   plant
  *
@@ -24,20 +24,21 @@ typedef struct {
 #define BLOCK(p) (p)->words, (p)->word_count, (p)->keys, (p)->key_count
 #define SCRATCH(p) (p)->scratch, (p)->scratch_count
 
-static const char *sentence(uint32_t number) {
-    static const char *const sentences[] = {
-        "Done.",
-        "No such tag is held.",
-        "The tag is over 64 bytes long.",
-        "The tag begins a held tag, or a held tag begins it.",
-        "The directory holds as many tags as it has room for.",
-        "No record is free for the branching that this tag needs.",
-        "The words or key bytes are damaged: bring the last saved copy back.",
-        "Scratch is too short: lend a byte for each record.",
-        "The capacities are too large, or do not fit the slices.",
-        "No leaf in use has this number.",
+/* A number given back, in words. 0 is said by each call in its own way. */
+static const char *meaning(uint32_t number) {
+    static const char *const meanings[] = {
+        "done",
+        "no such tag is held",
+        "refused, the tag is over 64 bytes long",
+        "refused, the tag begins a held tag, or a held tag begins it",
+        "refused, there is room for no more tags",
+        "refused, no record is free for a branching",
+        "the memory is damaged",
+        "scratch is too short",
+        "the memory is not of the size that the capacities need",
+        "no leaf in use has this number",
     };
-    return number < sizeof sentences / sizeof sentences[0] ? sentences[number] : "The library gave a number that this program does not know.";
+    return number < sizeof meanings / sizeof meanings[0] ? meanings[number] : "a number that this program does not know";
 }
 
 /* Capacities that always suffice for so many tags. n tags have at most n - 1 branchings, and at most (n - 1) / (m - 1) of those have m children or more, so
@@ -68,66 +69,83 @@ static uint32_t start(plant *p, uint32_t tags) {
         fputs("There is no memory to lend.\n", stderr);
         exit(2);
     }
-    printf("Room for %" PRIu32 " tags: %zu words, %zu key bytes, %zu scratch bytes.\n", tags, p->word_count, p->key_count, p->scratch_count);
+    printf("Lent for %" PRIu32 " tags: %zu words, %zu key bytes, %zu scratch bytes.\n", tags, p->word_count, p->key_count, p->scratch_count);
     return directory_start(BLOCK(p), p->capacity[0], p->capacity[1], p->capacity[2], p->capacity[3], p->capacity[4]);
 }
 
 static void insert(plant *p, const char *tag, uint64_t total) {
-    directory_changed changed = directory_insert(BLOCK(p), SCRATCH(p), (const uint8_t *)tag, strlen(tag), total);
-    printf("insert %s with %" PRIu64 ": %s\n", tag, total, sentence(changed.number));
+    directory_changed a = directory_insert(BLOCK(p), SCRATCH(p), (const uint8_t *)tag, strlen(tag), total);
+    printf("insert %s with %" PRIu64 ": %s\n", tag, total, meaning(a.number));
+}
+
+/* A held tag is inserted again: the answer has the total that it had. */
+static void set(plant *p, const char *tag, uint64_t total) {
+    directory_changed a = directory_insert(BLOCK(p), SCRATCH(p), (const uint8_t *)tag, strlen(tag), total);
+    printf("set %s to %" PRIu64 ": ", tag, total);
+    if (a.number == 0) printf("done, its total was %" PRIu64 "\n", a.total);
+    else puts(meaning(a.number));
+}
+
+static void scrap(plant *p, const char *tag) {
+    directory_changed a = directory_delete(BLOCK(p), SCRATCH(p), (const uint8_t *)tag, strlen(tag));
+    printf("scrap %s: ", tag);
+    if (a.number == 0) printf("done, its total was %" PRIu64 "\n", a.total);
+    else puts(meaning(a.number));
 }
 
 static void search(const plant *p, const char *tag) {
-    directory_found found = directory_search(BLOCK(p), (const uint8_t *)tag, strlen(tag));
-    if (found.number == 0) printf("search %s: its total is %" PRIu64 ".\n", tag, found.total);
-    else printf("search %s: %s\n", tag, sentence(found.number));
+    directory_found a = directory_search(BLOCK(p), (const uint8_t *)tag, strlen(tag));
+    printf("search %s: ", tag);
+    if (a.number == 0) printf("its total is %" PRIu64 "\n", a.total);
+    else puts(meaning(a.number));
 }
 
-static void delete(plant *p, const char *tag) {
-    directory_changed changed = directory_delete(BLOCK(p), SCRATCH(p), (const uint8_t *)tag, strlen(tag));
-    if (changed.number == 0) printf("delete %s: its total was %" PRIu64 ".\n", tag, changed.total);
-    else printf("delete %s: %s\n", tag, sentence(changed.number));
+/* Whether a leaf was found, and its tag begins with the name of the station. A tag is a part of the key bytes, without a 0 at its end. */
+static bool is_of(const plant *p, const char *name, directory_found a) {
+    if (a.number != 0) return false;
+    directory_part tag = directory_leaf_tag(BLOCK(p), a.leaf);
+    return strlen(name) <= tag.length && memcmp(name, p->keys + tag.start, strlen(name)) == 0;
 }
 
-/* The tag is a part of the key bytes, without a 0 at its end, so its length goes with it. */
-static void say_leaf(const plant *p, directory_found found) {
-    directory_part tag = directory_leaf_tag(BLOCK(p), found.leaf);
-    printf("  %.*s  %" PRIu64 "\n", (int)tag.length, (const char *)(p->keys + tag.start), found.total);
-}
-
-/* All tags in order. At most as many steps as there is room for tags: the leaf list of a damaged block may be a ring. */
-static void list(const plant *p) {
-    directory_found at = directory_minimum(BLOCK(p));
-    puts("list:");
-    for (uint32_t steps = 0; at.number == 0 && steps < p->capacity[4]; steps++) {
-        say_leaf(p, at);
-        at = directory_next_leaf(BLOCK(p), at.leaf);
+/* The pumps of a station and what they have pumped: from its first tag by next leaf, as long as the tags begin with its name. At most as many steps as there is
+ * room for tags: the leaf list of a damaged block may be a ring. */
+static void station(plant *p, const char *name) {
+    directory_found a = directory_first_at_or_after(BLOCK(p), SCRATCH(p), (const uint8_t *)name, strlen(name));
+    uint32_t pumps = 0;
+    uint64_t sum = 0;
+    while (pumps < p->capacity[4] && is_of(p, name, a)) {
+        sum = UINT64_MAX - sum < a.total ? UINT64_MAX : sum + a.total;
+        a = directory_next_leaf(BLOCK(p), a.leaf);
+        pumps++;
     }
-    /* 1 is the end of the list */
-    if (at.number != 1) printf("The list was left early. %s\n", sentence(at.number));
+    printf("station %s: %" PRIu32 " pumps, total flow %" PRIu64 "\n", name, pumps, sum);
 }
+
+/* What is put in. For the ninth pump there is no room; the last tag begins held tags. */
+static const struct {
+    const char *tag;
+    uint64_t total;
+} rows[] = {
+    {"L14/P2/FLOW", 97310}, {"L14/P1/FLOW", 184205}, {"L15/P1/FLOW", 203511}, {"L15/P2/FLOW", 199402}, {"L16/P1/FLOW", 8630},
+    {"L17/P2/FLOW", 40213}, {"L17/P1/FLOW", 51877},  {"L14/P3/FLOW", 66120},  {"L16/P2/FLOW", 1204},   {"L14/P1", 1},
+};
 
 int main(void) {
     plant p;
-    uint32_t number = start(&p, 10);
-    if (number != 0) {
-        printf("start: %s\n", sentence(number));
-        return 1;
-    }
-    insert(&p, "L14/P2/FLOW", 120450);
-    insert(&p, "L14/P1/FLOW", 98310);
-    insert(&p, "L14/P1/HOURS", 4120);
-    insert(&p, "L09/P1/FLOW", 77002);
-    insert(&p, "SUMP3/LEVEL", 2);
-    /* one that is refused, because it would begin held tags */
-    insert(&p, "L14/P1", 1);
+    uint32_t number = start(&p, 8);
+    printf("start: %s\n", meaning(number));
+    for (size_t i = 0; i < sizeof rows / sizeof rows[0]; i++) insert(&p, rows[i].tag, rows[i].total);
     search(&p, "L14/P2/FLOW");
-    search(&p, "L14/P3/FLOW");
-    list(&p);
-    delete(&p, "SUMP3/LEVEL");
-    list(&p);
+    search(&p, "L14/P9/FLOW");
+    set(&p, "L14/P2/FLOW", 97355);
+    scrap(&p, "L16/P1/FLOW");
+    scrap(&p, "L16/P1/FLOW");
     number = directory_check(BLOCK(&p), SCRATCH(&p));
-    printf("check: %s\n", number == 0 ? "The directory is sound." : sentence(number));
+    printf("check: %s\n", number == 0 ? "the directory is sound" : meaning(number));
+    station(&p, "L14/");
+    station(&p, "L15/");
+    station(&p, "L16/");
+    station(&p, "L17/");
     free(p.words), free(p.keys), free(p.scratch);
     return number == 0 ? 0 : 1;
 }

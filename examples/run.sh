@@ -1,5 +1,5 @@
 #!/bin/sh
-# Builds the first program, in C and in Rust, runs both, and compares what they print with plant.txt.
+# Builds the first program, in C and in Rust, runs both, and compares what they print with what the proved program plant prints.
 #
 #   examples/run.sh
 #
@@ -28,6 +28,6 @@ ${CC:-cc} -O2 -std=c11 -Wall -Wextra -Werror -I../include plant.c "$library" -o 
 rustc -O --edition 2021 -D warnings plant.rs -L native="$(dirname "$library")" -o "$out/plant_rs"
 for program in plant_c plant_rs; do
     "$out/$program" > "$out/plant.txt"
-    diff plant.txt "$out/plant.txt"
-    echo "$program: printed what plant.txt has"
+    diff ../crates/plant/stdout "$out/plant.txt"
+    echo "$program: printed what crates/plant/stdout has"
 done
