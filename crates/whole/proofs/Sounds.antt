@@ -146,7 +146,7 @@ module _ {f : Frame} {words keys : List ℕ} (fr : FrameOf f words keys) (m : Li
       pool : (k : ℕ) → k ≤ 5 → sweptPool f words keys m k ≡ true
       pool k l =
           under-by (getD (f .caps) k 0) (λ n. sweptAt f words keys m (placeAt (n * 8 + k)))
-          (λ n i. at (placeAt (n * 8 + k)) (pool-place fr k n l i) (unmarked (markAt f (placeAt (n * 8 + k))) m) refl)
+          (λ n i. at (placeAt (n * 8 + k)) (pool-place fr k n l i refl) (unmarked (markAt f (placeAt (n * 8 + k))) m) refl)
 
 -- ── a tree that is shown by records that obey their rules is good ──
 abbrev Rising : Row Held → Type 0

@@ -2,7 +2,7 @@
 use Prim.Native.Nat.{ℕ, zero, suc, _+_, _*_, _/_, _%_, _≤_, _<_}
 use mathlib.Core.Path.{_≡_, refl, sym, ap, _∙_}
 use mathlib.Core.List.{List}
-use mathlib.Core.Bool.{Bool, true, false, _&&_, and-false}
+use mathlib.Core.Bool.{Bool, true, false, not, _&&_, and-false}
 use native.Mathlib.Omega.{arith}
 use native.Mathlib.Numerals.{add-one}
 use native.Mathlib.Decide.{ℕ-discrete}
@@ -15,12 +15,12 @@ use Rattle.lists.proofs.Tests.{both, and-both}
 use Rattle.frames.specs.Form.{recordWords}
 use Rattle.frames.specs.Frame.{FrameOf}
 use Rattle.frames.specs.Place.{placeAt, inPool, startAt, keyAt}
-use Rattle.frames.proofs.Frames.{framed}
+use Rattle.frames.proofs.Frames.{framed, caps-most}
 use Rattle.frames.proofs.Places.{pool-by}
 use Rattle.frames.specs.declared.frame.Frame.{Frame}
 use Rattle.records.specs.View.{blankAt}
 use Rattle.art.specs.Stores.{Place}
-use Rattle.tree.proofs.Arrivals.{leaf-named, inner-named, leaf-in, inner-in}
+use Rattle.tree.proofs.Arrivals.{fails, holds, leaf-named, inner-named, leaf-in, inner-in}
 use Rattle.whole.specs.Marks.{markAt, unmarked}
 use Rattle.whole.specs.Sweep.{allUnder, sweptAt, sweptPool, swept}
 
@@ -92,24 +92,31 @@ module _ (f : Frame) (words keys m : List ℕ) (x : Place) where
 
 -- ── a pool ──
 module _ {f : Frame} {words keys : List ℕ} (w : FrameOf f words keys) where
-  -- the places of a pool
-  pub pool-place : (k i : ℕ) → k ≤ 5 → i < getD (f .caps) k 0 → inPool f (placeAt (i * 8 + k)) ≡ true
-  pool-place k i h l =
-      let a : (i * 8 + k) % 8 ≡ k = omega arith in
-      let b : (i * 8 + k) / 8 ≡ i = omega arith in
-      sym (pool-by f (i * 8 + k) (framed w))
-      ∙ ap (λ (x : ℕ). ltb x (getD (f .caps) ((i * 8 + k) % 8) 0)) b
-      ∙ ap (λ (x : ℕ). ltb i (getD (f .caps) x 0)) a
-      ∙ lt-ltb i (getD (f .caps) k 0) l
+  -- a record's number is small, and the reference made from it names the record
+  pub pool-small : (k i : ℕ) → k ≤ 5 → i < getD (f .caps) k 0 → i ≤ 4096
+  pool-small k i h l = omega (arith, caps-most (framed w) k (omega arith))
+
+  pub pool-place : (k i : ℕ) {ref : ℕ} → k ≤ 5 → i < getD (f .caps) k 0 → ref ≡ i * 8 + k → inPool f (placeAt ref) ≡ true
+  pool-place k i h l e = ap (λ (x : ℕ). inPool f (placeAt x)) e ∙ here
+    where
+      here : inPool f (placeAt (i * 8 + k)) ≡ true
+      here =
+          let a : (i * 8 + k) % 8 ≡ k = omega arith in
+          let b : (i * 8 + k) / 8 ≡ i = omega arith in
+          sym (pool-by f (i * 8 + k) (framed w))
+          ∙ ap (λ (x : ℕ). ltb x (getD (f .caps) ((i * 8 + k) % 8) 0)) b
+          ∙ ap (λ (x : ℕ). ltb i (getD (f .caps) x 0)) a
+          ∙ lt-ltb i (getD (f .caps) k 0) l
 
 module _ (f : Frame) (words keys m : List ℕ) (k i : ℕ) where
-  pub pool-fails : i < getD (f .caps) k 0 → sweptAt f words keys m (placeAt (i * 8 + k)) ≡ false → false ≡ sweptPool f words keys m k
+  pub pool-fails : {ref : ℕ} {b : Bool} → i < getD (f .caps) k 0 → ref ≡ i * 8 + k → b ≡ sweptAt f words keys m (placeAt ref) → not b ≡ true → false ≡ sweptPool f words keys m k
   unfolding sweptPool
-  pool-fails h e = sym (under-fails (getD (f .caps) k 0) i (λ n. sweptAt f words keys m (placeAt (n * 8 + k))) h e)
+  pool-fails h r e t =
+      sym (under-fails (getD (f .caps) k 0) i (λ n. sweptAt f words keys m (placeAt (n * 8 + k))) h (ap (λ (x : ℕ). sweptAt f words keys m (placeAt x)) (sym r) ∙ fails e t))
 
-  pub pool-next : allUnder i (λ n. sweptAt f words keys m (placeAt (n * 8 + k))) ≡ true → sweptAt f words keys m (placeAt (i * 8 + k)) ≡ true
-      → allUnder (i + 1) (λ n. sweptAt f words keys m (placeAt (n * 8 + k))) ≡ true
-  pool-next a e = under-next i (λ n. sweptAt f words keys m (placeAt (n * 8 + k))) a e
+  pub pool-next : {ref : ℕ} {b : Bool} → allUnder i (λ n. sweptAt f words keys m (placeAt (n * 8 + k))) ≡ true → ref ≡ i * 8 + k → b ≡ sweptAt f words keys m (placeAt ref)
+      → not b ≡ false → allUnder (i + 1) (λ n. sweptAt f words keys m (placeAt (n * 8 + k))) ≡ true
+  pool-next a r e t = under-next i (λ n. sweptAt f words keys m (placeAt (n * 8 + k))) a (ap (λ (x : ℕ). sweptAt f words keys m (placeAt x)) (sym r) ∙ holds e t)
 
   pub pool-end : i ≡ getD (f .caps) k 0 → allUnder i (λ n. sweptAt f words keys m (placeAt (n * 8 + k))) ≡ true → true ≡ sweptPool f words keys m k
   unfolding sweptPool

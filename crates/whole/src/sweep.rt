@@ -49,9 +49,10 @@ fn sweep_pool(marks: &[u8], words: &[u32], keys: &[u8], f: Frame, kind: u32) -> 
 {
     let caps = f.caps;
     let n = caps[kind as usize];
-    let mut i: u32 = 0;
-    while (i as usize) < n {
-        if !swept_at(marks, words, keys, f, i * 8 + kind) {
+    let mut i: usize = 0;
+    while i < n {
+        let reference = frame::reference_to(kind, i);
+        if !swept_at(marks, words, keys, f, reference) {
             return false;
         }
         i += 1;

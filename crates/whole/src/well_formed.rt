@@ -18,6 +18,7 @@ use super::witness;
 use frames::form;
 use frames::form::Form;
 use frames::frame::Frame;
+use frames::kind::BYTES;
 use frames::kind::LEAF_WORDS;
 use records::header;
 use records::leaf_node;
@@ -223,11 +224,11 @@ fn check_row(
     requires { ⌜ RowReady f (now words) (now keys) left row 256 0 s (now marks) ⌝ }
     ensures { λ r. ⌜ (r ≡ rowWay f (now (words .entry)) (now (keys .entry)) left row 256 0 (now (marks .entry)) s .visit) × (now (marks .exit) ≡ rowWay f (now (words .entry)) (now (keys .entry)) left row 256 0 (now (marks .entry)) s .marks) ⌝ }
 {
-    let mut places_left: usize = 256;
+    let mut places_left: usize = BYTES;
     let mut w: u32 = 0;
     let mut seen = s;
     while places_left > 0 {
-        let c = row_child(words, f.form, row, 256 - places_left);
+        let c = row_child(words, f.form, row, BYTES - places_left);
         let Entry::Child(b, r) = c else {
             return row_end(w, seen);
         };
@@ -236,7 +237,7 @@ fn check_row(
         let Visit::Well(y, z) = x else {
             return Visit::Ill;
         };
-        places_left = 255 - b as usize;
+        places_left = BYTES - 1 - b as usize;
         w = y;
         seen = z;
     }

@@ -179,6 +179,7 @@ module _ (t : ℕ) where
       (λ c. visited (c .before .before .before .before .before) .same-length)
       row-returns-2
       (λ c. search needs)
+      (λ c. search needs)
       (λ c. omega (arith, found (to-child (to-visit c)) .starts .byte))
       loop-less
       loop-again
