@@ -259,7 +259,9 @@ def main():
     options = words.parse_args()
     texts = {(f.parts[-3], f.name): f.read_text() for f in sorted((ROOT / "crates").glob("*/src/*.rt"))}
     crates = re.findall(r"^(\w+):", (ROOT / "crates.txt").read_text(), re.M)
-    places = places_of([c for c in crates if (c, "lib.rt") in texts], {k: code_of(t) for k, t in texts.items()})
+    # A library without definitions, as that under the programs, promises nothing but to be safe: what it prints is compared by running it.
+    held = [c for c in crates if (c, "lib.rt") in texts and (ROOT / "crates" / c / "specs").is_dir()]
+    places = places_of(held, {k: code_of(t) for k, t in texts.items()})
     if options.only:
         places = {options.only: places[options.only]}
     if options.list:
