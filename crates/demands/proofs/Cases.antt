@@ -1,10 +1,9 @@
 -- Insert and delete by cases: a refusal, which hands the words and key bytes back, or a plan on a block that the check found sound.
-use Prim.Native.Nat.{ℕ, _≤_}
+use Prim.Native.Nat.{ℕ}
 use mathlib.Core.Path.{_≡_, refl, ap}
 use mathlib.Core.List.{List}
 use mathlib.Core.Bool.{Bool, true, false}
 use native.Mathlib.Omega.{arith}
-use lib.ListN.{length}
 use Rattle.lists.specs.Scan.{choose}
 use Rattle.pools.specs.Start.{startNumber}
 use Rattle.pools.specs.declared.start.Started.{Started}

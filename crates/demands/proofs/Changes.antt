@@ -1,6 +1,6 @@
 -- What an accepted insert or delete makes of a sound block: a sound block again, in the same frame, with the tag put in, altered or left out.
 use Prim.Native.Nat.{ℕ, _/_, _≤_}
-use mathlib.Core.Path.{_≡_, refl, sym, ap}
+use mathlib.Core.Path.{_≡_, refl, sym}
 use mathlib.Core.List.{List}
 use mathlib.Core.Option.{some}
 use lib.ListN.{length}

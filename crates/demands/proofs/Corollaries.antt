@@ -1,12 +1,11 @@
 -- Accepted changes to different tags draw the same tree in either order, and an unheld tag added and removed leaves the drawing: the listings are equal, and the listing decides the drawing.
-use Prim.Native.Nat.{ℕ, _≤_}
+use Prim.Native.Nat.{ℕ}
 use mathlib.Core.Path.{_≡_, refl, sym, ap, subst, _∙_, fun-ext}
 use mathlib.Core.Logic.{_≢_}
 use mathlib.Core.List.{List, []}
 use mathlib.Core.Option.{Option, none, some}
 use mathlib.Core.Bool.{true}
 use native.Mathlib.Omega.{arith}
-use lib.ListN.{length}
 use Rattle.frames.specs.Frame.{rootWord, frame}
 use Rattle.frames.specs.Place.{placeAt, inPool}
 use Rattle.frames.proofs.Places.{place-ref}
@@ -37,7 +36,7 @@ use Rattle.delete.specs.Delete as delete-call
 use Rattle.delete.specs.declared.answer.Deleted.{Deleted}
 use Rattle.delete.specs.declared.answer.Deleted.the-variants as deleted
 use Rattle.demands.specs.Calls.{Edit, insert, delete, edit}
-use Rattle.demands.specs.Histories.{Block, next, leaves, nothing, insertChange, deleteChange, tagOf, changeOf, totals, amended, CallBytes}
+use Rattle.demands.specs.Histories.{Block, next, leaves, nothing, insertChange, deleteChange, tagOf, changeOf, totals, amended}
 use Rattle.demands.specs.Drawn.{drawing}
 use Rattle.demands.specs.Accepts.{turn, Accepted, effect, done}
 use Rattle.demands.proofs.Changes.{insert-sound, over-held}

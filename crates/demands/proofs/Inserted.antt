@@ -1,5 +1,5 @@
 -- Insert on a sound block, with scratch enough, answers by the verdict on the tag, the free leaves and the free records: the plan is the one that these call for.
-use Prim.Native.Nat.{ℕ, _≤_}
+use Prim.Native.Nat.{ℕ}
 use mathlib.Core.Path.{_≡_, refl, sym, ap, _∙_}
 use mathlib.Core.Logic.{if-neg}
 use mathlib.Core.List.{[], _∷_, head-eq-of-cons-eq, append-cancel-left}

@@ -1,5 +1,5 @@
 -- Each call tests its conditions in the table's order, so it gives a row's number exactly where the row's condition holds.
-use Prim.Native.Nat.{ℕ, _≤_}
+use Prim.Native.Nat.{ℕ}
 use mathlib.Core.Path.{_≡_, refl, sym, ap, subst, _∙_}
 use mathlib.Core.Logic.{_≢_}
 use mathlib.Core.List.{List}
@@ -58,7 +58,6 @@ use Rattle.insert.proofs.Refusals as refusals
 use Rattle.delete.specs.Answer as delete-answer
 use Rattle.delete.specs.Delete as delete-call
 use Rattle.delete.specs.Plan as delete-plan
-use Rattle.delete.specs.declared.answer.Deleted.{Deleted}
 use Rattle.delete.specs.declared.plan.Plan as delete-plans
 use Rattle.delete.specs.declared.plan.Plan.the-variants as gone
 use Rattle.delete.proofs.Answers as delete-answers
@@ -66,7 +65,7 @@ use Rattle.demands.specs.Calls.{Query, search, prefix-search, minimum, m
 use Rattle.demands.specs.Calls.{Call, start, query, ask, edit, Slices, numberOf, given, checks, number}
 use Rattle.demands.specs.Histories.{CallBytes}
 use Rattle.demands.specs.Due as due
-use Rattle.demands.specs.Due.{Unframed, Fitting, Short, Unsound, Passed, holds, InUse, obeys, nextRef, namesLeaf, nextNamed, Numbered, OnLeaf, of-next, of-facts, Allowed, Due}
+use Rattle.demands.specs.Due.{Unframed, Fitting, Passed, holds, InUse, obeys, nextRef, namesLeaf, nextNamed, Numbered, OnLeaf, of-next, of-facts, Allowed, Due}
 use Rattle.demands.proofs.Changes.{over-held}
 use Rattle.demands.proofs.Inserted.{inserts-listed}
 use Rattle.demands.proofs.Reading.{sound-reads}

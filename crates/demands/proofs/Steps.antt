@@ -1,5 +1,5 @@
 -- One call on a sound block leaves a sound block, whose tags and totals are those that the accepted call defines.
-use Prim.Native.Nat.{ℕ, _≤_}
+use Prim.Native.Nat.{ℕ}
 use mathlib.Core.Path.{_≡_, refl, sym, ap, subst, _∙_, fun-ext}
 use mathlib.Core.Logic.{if-pos}
 use mathlib.Core.List.{List, []}

@@ -3,7 +3,7 @@ use Prim.Native.Nat.{ℕ}
 use mathlib.Core.Path.{_≡_}
 use mathlib.Core.List.{List}
 use mathlib.Core.Option.{Option, none, some}
-use Rattle.art.specs.Tags.{Tag, Listing}
+use Rattle.art.specs.Tags.{Listing}
 use Rattle.art.specs.Listings.{lookup}
 use Rattle.demands.specs.Calls.{Edit, insert, delete, edit, numberOf}
 use Rattle.demands.specs.Histories.{Block, Turn, answered, tagOf, Change, puts, alters, leaves, amended}

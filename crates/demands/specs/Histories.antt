@@ -18,7 +18,7 @@ use Rattle.delete.specs.Delete.{deleteOf}
 use Rattle.delete.specs.declared.answer.Deleted.{Deleted}
 use Rattle.delete.specs.declared.answer.Deleted.the-variants as deleted
 use Rattle.demands.specs.Calls as calls
-use Rattle.demands.specs.Calls.{Call, Query, Asked, Edit, Slices, Answer, run}
+use Rattle.demands.specs.Calls.{Call, Query, Edit, Slices, Answer, run}
 
 -- the words and key bytes of a directory
 pub record Block : Type 0 where

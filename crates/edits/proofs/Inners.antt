@@ -1,16 +1,16 @@
 -- An inner record that obeys its rule, with its prefix and its row: what each change of a record makes of the two, and the cell it shows.
-use Prim.Native.Nat.{ℕ, zero, suc, _+_, _-_, _≤_, _<_}
+use Prim.Native.Nat.{ℕ, _+_, _-_, _≤_, _<_}
 use mathlib.Core.Path.{_≡_, refl, sym, ap, ap₂, subst, _∙_}
 use mathlib.Core.List.{List, [], _++_, append-nil}
 use mathlib.Core.Bool.{Bool, true}
 use native.Mathlib.Omega.{arith}
 use lib.ListN.{length, getD, set, replicate, length-set, length-append, length-replicate, List·getD-append}
-use lib.Seq.{ext-getD, getD-set-same, getD-set-other}
+use lib.Seq.{getD-set-same, getD-set-other}
 use borrow.Author.Tests.{eq-eqb, ne-eqb, le-leb}
 use Rattle.lists.specs.Scan.{choose, atMost, allPass, nonzero, howMany}
 use Rattle.lists.specs.Part.{between}
 use Rattle.lists.proofs.Tests.{and-both}
-use Rattle.lists.proofs.Parts.{between-length, between-at, between-left, between-middle, between-set-before, splice-length, splice-same, splice-before, splice-after, splice-at-before}
+use Rattle.lists.proofs.Parts.{between-left, between-middle, between-set-before, splice-length, splice-same, splice-before, splice-after, splice-at-before}
 use Rattle.prefix.specs.Run.{capped, held}
 use Rattle.prefix.specs.declared.Prefix.{Prefix}
 use Rattle.frames.specs.Kind.{childrenOf, bodyWords}

@@ -2,7 +2,7 @@
 ghost use mathlib.Core.Path.{_≡_};
 ghost use Prim.Native.Nat.{_≤_, _+_};
 ghost use lib.ListN.{length};
-ghost use mathlib.Core.List.{[], _∷_};
+ghost use mathlib.Core.List.{[]};
 ghost use Rattle.lists.specs.Part.{splice};
 ghost use Rattle.frames.specs.Form.{header, wordOf, packed, Stores, packOf};
 ghost use Rattle.edits.specs.Head.{setPrefix, setHead};

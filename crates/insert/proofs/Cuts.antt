@@ -1,6 +1,6 @@
 -- What is below a new branching: a leaf stays as it is, and a record's prefix is cut.
 use Prim.Native.Nat.{ℕ, _+_, _%_, _/_, _≤_, _<_}
-use mathlib.Core.Path.{_≡_, refl, sym, ap, subst, _∙_}
+use mathlib.Core.Path.{_≡_, refl, sym, ap, _∙_}
 use mathlib.Core.List.{List}
 use mathlib.Core.Bool.{Bool, true, false, true≢false}
 use native.Mathlib.Omega.{arith}
@@ -22,7 +22,7 @@ use Rattle.frames.proofs.Frames.{limit-small}
 use Rattle.frames.proofs.Places.{inner-kind, key-length}
 use Rattle.records.specs.Own.{prefixAt}
 use Rattle.art.specs.Stores.{Place, leaf-place, inner-place}
-use Rattle.whole.specs.Witness.{lengthAt, tagAt, LeafSeen}
+use Rattle.tree.specs.Seen.{lengthAt, tagAt, LeafSeen}
 use Rattle.points.specs.There.{InnerFitsAt}
 use Rattle.writes.specs.At.{InnerPoolAt, prefixedAt}
 use Rattle.writes.proofs.Spots.{here-place, prefix-short}

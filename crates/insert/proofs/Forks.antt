@@ -29,7 +29,7 @@ use Rattle.art.specs.Points as art
 use Rattle.art.specs.Points.{ChildAt, ForkFits, tag-at, trim, shorten}
 use Rattle.art.proofs.Stores.{write-other}
 use Rattle.view.specs.Pools.{FreeAt}
-use Rattle.whole.specs.Witness.{lengthAt, tagAt}
+use Rattle.tree.specs.Seen.{lengthAt, tagAt}
 use Rattle.points.specs.There.{ForkThere}
 use Rattle.points.specs.declared.insert_point.Up.{Up}
 use Rattle.writes.specs.At.{branchAt, InnerPoolAt}

@@ -35,7 +35,7 @@ use Rattle.view.proofs.Pools.{kind-free}
 use Rattle.reading.specs.Answers.{Bytes}
 use Rattle.reading.specs.Shown.{Shown}
 use Rattle.reading.proofs.Entries.{shown-root, zero-unused, tree-shows}
-use Rattle.whole.specs.Witness.{tagAt}
+use Rattle.tree.specs.Seen.{tagAt}
 use Rattle.points.specs.Point.{pointOf}
 use Rattle.points.specs.declared.insert_point.Point.{Point}
 use Rattle.states.specs.State.{State}

@@ -3,7 +3,6 @@ use Prim.Native.Nat.{ℕ, _≤_, _/_}
 use mathlib.Core.Path.{_≡_, refl, sym, ap, subst, _∙_}
 use mathlib.Core.List.{List}
 use mathlib.Core.Bool.{Bool, true, false}
-use native.Mathlib.Omega.{arith}
 use lib.ListN.{length}
 use borrow.Author.Tests.{le-ltb}
 use Rattle.lists.specs.Scan.{choose}
@@ -12,7 +11,7 @@ use Rattle.frames.specs.Place.{recordAt}
 use Rattle.frames.specs.declared.frame.Frame.{Frame}
 use Rattle.records.specs.Own.{totalOf}
 use Rattle.art.specs.Deletes.{held}
-use Rattle.art.specs.Verdicts.{known, judge}
+use Rattle.art.specs.Verdicts.{judge}
 use Rattle.art.specs.Stores.{leaf-place}
 use Rattle.art.specs.Points.{store-of}
 use Rattle.whole.specs.Marks.{placesIn}

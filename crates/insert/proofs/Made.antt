@@ -14,7 +14,7 @@ use Rattle.frames.specs.Place.{placeAt}
 use Rattle.frames.specs.declared.frame.Frame.{Frame}
 use Rattle.frames.proofs.Frames.{limit-small}
 use Rattle.edits.specs.declared.representation.Change.the-variants.{Add}
-use Rattle.whole.specs.Witness.{tagAt}
+use Rattle.tree.specs.Seen.{tagAt}
 use Rattle.points.specs.declared.insert_point.Up.{Up}
 use Rattle.points.specs.There.{UpThere}
 use Rattle.writes.specs.Above.{linkUp}

@@ -15,7 +15,7 @@ use Rattle.art.specs.Stores.{Place, leaf-place, inner-place}
 use Rattle.art.specs.Chain.{leaf-ref}
 use Rattle.edits.specs.declared.representation.Change.the-variants as change
 use Rattle.pools.specs.Link.{LeafOrEnd, setTrailer}
-use Rattle.whole.specs.Witness.{tagAt, LeafSeen}
+use Rattle.tree.specs.Seen.{tagAt, LeafSeen}
 use Rattle.points.specs.declared.insert_point.Up.{Up}
 use Rattle.points.specs.There.{InnerFitsAt, UpThere}
 use Rattle.writes.specs.At.{changeAt, prefixedAt, branchAt, moveAt, clearAt, Roomy, InnerPoolAt, Moves}

@@ -3,7 +3,7 @@ ghost use mathlib.Core.Path.{_≡_};
 ghost use Prim.Native.Nat.{_<_};
 ghost use Rattle.frames.specs.Frame.{FrameOf};
 ghost use Rattle.frames.specs.Place.{placeAt};
-ghost use Rattle.whole.specs.Witness.{tagAt};
+ghost use Rattle.tree.specs.Seen.{tagAt};
 ghost use Rattle.writes.specs.Leaf.{keyIn};
 ghost use Rattle.writes.specs.Above.{linkUp};
 ghost use Rattle.insert.specs.Apply.{cutAt, CutOrLeaf, grown, GrowReady, forked, ForkReady, hung, SiteReady, newWords, NewReady};
@@ -14,7 +14,7 @@ use frames::frame::Frame;
 use points::insert_point::Up;
 use pools::links;
 use prefix::header;
-use whole::witness;
+use tree::seen;
 use writes::above;
 use writes::leaf_node;
 use writes::leaf_node::Gap;
@@ -50,7 +50,7 @@ fn fork(
     requires { ⌜ FrameOf f (now words) (now keys) × (ForkReady f (now words) (now keys) (now tag) up below new witness d c leaf × (0 < leaf)) ⌝ }
     ensures { λ _. ⌜ (now (words .exit) ≡ linkUp f up new (forked f below new (now (tag .entry)) (tagAt f (now (words .entry)) (now (keys .entry)) witness) d c leaf (now (words .entry)))) × FrameOf f (now (words .exit)) (now (keys .entry)) ⌝ }
 {
-    let t = witness::tag_at(words, keys, f, witness);
+    let t = seen::tag_at(words, keys, f, witness);
     let e = d + c;
     let b = tag[e];
     let o = t[e];

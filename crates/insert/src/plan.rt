@@ -1,7 +1,7 @@
 // Where the new leaf goes, or why it cannot; all of it found by reading.
 ghost use mathlib.Core.Path.{_≡_};
 ghost use mathlib.Core.Bool.{true};
-ghost use Prim.Native.Nat.{_<_, _+_, _*_, _%_};
+ghost use Prim.Native.Nat.{_<_, _+_, _%_};
 ghost use lib.Dec.{ltb};
 ghost use Rattle.frames.specs.Kind.{childrenOf};
 ghost use Rattle.frames.specs.Frame.{FrameOf};

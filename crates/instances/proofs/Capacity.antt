@@ -15,7 +15,7 @@ use Rattle.whole.specs.Sound.{Sound}
 use Rattle.whole.proofs.Sounds.{whole-sound}
 use Rattle.pointed.proofs.Points.{tag-bytes}
 use Rattle.insert.specs.Room.{LeavesFull, Lacking}
-use Rattle.demands.specs.Calls.{query, ask, edit, Call, start, insert, delete, numberOf, number}
+use Rattle.demands.specs.Calls.{edit, Call, start, insert, delete, numberOf, number}
 use Rattle.demands.specs.Histories.{Block, Turn, answered, next, after-all, AllBytes}
 use Rattle.demands.proofs.Histories.{history}
 use Rattle.capacity.specs.Capacity.{Large, AmpleCaps, AmpleFrame, AmpleStarts, Tight}

@@ -1,12 +1,12 @@
 -- The demands on blocks that are written out: what each theorem asks is computed, and what it says of the block can be read off.
-use Prim.Native.Nat.{ℕ, _≤_}
+use Prim.Native.Nat.{ℕ}
 use mathlib.Core.Path.{_≡_, refl, ap, subst, _∙_}
 use mathlib.Core.Logic.{_≢_}
 use mathlib.Core.Bool.{false}
 use mathlib.Core.List.{List, [], _∷_}
 use mathlib.Core.Option.{some}
 use native.Mathlib.Omega.{arith}
-use lib.ListN.{length, replicate}
+use lib.ListN.{replicate}
 use Rattle.frames.specs.Frame.{frameFits, frame}
 use Rattle.records.specs.View.{Held}
 use Rattle.art.specs.Tags.{Tag, Listing, exact}

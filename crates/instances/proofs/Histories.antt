@@ -8,7 +8,7 @@ use Rattle.pools.specs.Start.{startOf}
 use Rattle.pools.specs.declared.start.Started.the-variants.{Done}
 use Rattle.reading.specs.Answers.{Bytes}
 use Rattle.pointed.proofs.Points.{tag-bytes}
-use Rattle.demands.specs.Calls.{query, ask, edit, Call, start, insert, delete}
+use Rattle.demands.specs.Calls.{edit, Call, start, insert, delete}
 use Rattle.demands.specs.Histories.{Block, Turn, next, after-all, amended-all, Tally, tally, counted-all, AllBytes}
 use Rattle.demands.specs.Story.{Story}
 use Rattle.demands.proofs.Histories.{history}

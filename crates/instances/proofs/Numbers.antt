@@ -1,7 +1,6 @@
 -- Each number from 0 to 9 is given, and its row of the table holds where it is: `due-number` and `number-due` on one call for each.
 use mathlib.Core.Path.{refl, ap}
 use mathlib.Core.List.{List, [], _∷_}
-use native.Mathlib.Omega.{arith}
 use lib.ListN.{replicate}
 use Rattle.art.specs.Tags.{exact}
 use Rattle.art.specs.Listings.{find}

@@ -10,7 +10,7 @@ use Rattle.art.specs.Stores.{Place, leaf-place, inner-place}
 use Rattle.tree.specs.declared.minmax.Edge.{Edge}
 use Rattle.tree.specs.declared.minmax.Edge.the-variants.{Low}
 use Rattle.pointed.proofs.Points.{tag-bytes}
-use Rattle.demands.specs.Calls.{query, ask, edit, search, prefix-search, minimum, maximum}
+use Rattle.demands.specs.Calls.{query, search, prefix-search, minimum, maximum}
 use Rattle.demands.specs.Histories.{Block}
 use Rattle.demands.specs.Due as due
 use Rattle.demands.specs.Way as way

@@ -30,7 +30,8 @@ use Rattle.whole.specs.Check.{rootWay, wayWell, wholeBy, wholeOf, checkOf}
 use Rattle.whole.specs.Marks.{placesIn, fresh, reached}
 use Rattle.whole.specs.Sweep.{sweptAt, sweptPool, swept}
 use Rattle.whole.specs.Visit.{leafVisit, turnAt, rowEnd, rowBy, recordBy}
-use Rattle.whole.specs.Witness.{tagAt, goesOn, storedAgrees}
+use Rattle.tree.specs.Seen.{tagAt}
+use Rattle.whole.specs.Witness.{goesOn, storedAgrees}
 use Rattle.range.specs.Range as range
 use Rattle.points.specs.Point as points
 use Rattle.writes.specs.At.{changeAt, prefixedAt, branchAt, moveAt, dropAt, clearAt}

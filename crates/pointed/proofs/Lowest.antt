@@ -11,7 +11,7 @@ use Rattle.frames.specs.declared.frame.Frame.{Frame}
 use Rattle.records.specs.View.{Held, cellOf, ruleAt}
 use Rattle.tree.specs.declared.answer.Found.the-variants.{Leaf}
 use Rattle.tree.specs.declared.minmax.Edge.the-variants.{Low}
-use Rattle.whole.specs.Witness.{tagAt}
+use Rattle.tree.specs.Seen.{tagAt}
 use Rattle.points.specs.Point.{lowestOf}
 use Rattle.art.specs.Tags.{Tag}
 use Rattle.art.specs.Trees.{Tree, leaf, inner, Row, end, child, Good, GoodRow}

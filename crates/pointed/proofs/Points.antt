@@ -18,7 +18,7 @@ use Rattle.records.specs.Own.{prefixAt, childAt}
 use Rattle.records.specs.Row.{rowAt, refFor}
 use Rattle.records.specs.View.{Held, cellOf, ruleAt}
 use Rattle.records.proofs.RowRules.{row-rule}
-use Rattle.whole.specs.Witness.{tagAt}
+use Rattle.tree.specs.Seen.{tagAt}
 use Rattle.points.specs.Point.{runStep, innerStep, pointFrom, pointOf}
 use Rattle.points.specs.declared.insert_point.Up.{Up}
 use Rattle.points.specs.declared.insert_point.Up.the-variants.{Top, Via}

@@ -22,9 +22,8 @@ use Rattle.tree.specs.declared.minmax.Edge.{Edge}
 use Rattle.tree.specs.declared.minmax.EdgeStep.{EdgeStep}
 use Rattle.tree.specs.declared.minmax.EdgeStep.the-variants.{Next, Final}
 use Rattle.tree.proofs.Arrivals.{leaf-named, arrive-leaf}
-use Rattle.whole.specs.Witness.{LeafSeen}
-use Rattle.whole.proofs.Turning.{leaf-arrived}
-use Rattle.whole.proofs.Witnesses.{seen-pool}
+use Rattle.tree.specs.Seen.{LeafSeen}
+use Rattle.tree.proofs.Leaves.{leaf-arrived, seen-pool}
 use Rattle.points.specs.Point.{lowestOf, leafRef}
 
 module _ (f : Frame) (words keys : List ℕ) where

@@ -25,7 +25,7 @@ use Rattle.tree.specs.declared.answer.Found.{Found}
 use Rattle.tree.specs.declared.answer.Found.the-variants as found
 use Rattle.tree.specs.declared.arrive.Arrival.{Arrival}
 use Rattle.tree.specs.declared.arrive.Arrival.the-variants as arrival
-use Rattle.whole.specs.Witness.{tagAt}
+use Rattle.tree.specs.Seen.{tagAt}
 use Rattle.points.specs.Point.{leafPoint, lowestOf, leafRef, runBelow, runOf, forkPoint, childStep, runStep, innerStep, stepFrom, stepOf, endedOf, pointFrom, pointOf}
 use Rattle.points.specs.declared.insert_point.Up.{Up}
 use Rattle.points.specs.declared.insert_point.Up.the-variants.{Top, Via}

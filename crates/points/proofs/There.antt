@@ -24,9 +24,8 @@ use Rattle.tree.specs.declared.answer.Found.the-variants as found
 use Rattle.tree.specs.declared.arrive.Arrival.{Arrival}
 use Rattle.tree.specs.declared.arrive.Arrival.the-variants as arrival
 use Rattle.tree.proofs.Arrivals.{inner-there}
-use Rattle.whole.specs.Witness.{tagAt, LeafSeen}
-use Rattle.whole.proofs.Turning.{leaf-arrived}
-use Rattle.whole.proofs.Witnesses.{seen-pool}
+use Rattle.tree.specs.Seen.{tagAt, LeafSeen}
+use Rattle.tree.proofs.Leaves.{leaf-arrived, seen-pool}
 use Rattle.points.specs.Point.{leafPoint, lowestOf, leafRef, runOf, forkPoint, childStep, runStep, innerStep, stepFrom, stepOf, endedOf, pointFrom, pointOf}
 use Rattle.points.specs.There.{InnerFitsAt, HasChild, UpThere, PointThere}
 use Rattle.points.specs.declared.insert_point.Up.{Up}

@@ -20,7 +20,7 @@ use Rattle.tree.specs.declared.answer.Found.the-variants as found
 use Rattle.tree.specs.declared.arrive.Arrival.{Arrival}
 use Rattle.tree.specs.declared.arrive.Arrival.the-variants as arrival
 use Rattle.tree.specs.declared.minmax.Edge.the-variants.{Low}
-use Rattle.whole.specs.Witness.{tagAt}
+use Rattle.tree.specs.Seen.{tagAt}
 use Rattle.points.specs.declared.insert_point.Up.{Up}
 use Rattle.points.specs.declared.insert_point.Up.the-variants.{Top, Via}
 use Rattle.points.specs.declared.insert_point.Point.{Point}

@@ -8,7 +8,7 @@ use Rattle.frames.specs.Place.{placeAt, inPool, recordAt, kindAt}
 use Rattle.frames.specs.declared.frame.Frame.{Frame}
 use Rattle.records.specs.Own.{childAt, InnerFits}
 use Rattle.art.specs.Stores.{Place}
-use Rattle.whole.specs.Witness.{LeafSeen}
+use Rattle.tree.specs.Seen.{LeafSeen}
 use Rattle.points.specs.declared.insert_point.Up.{Up}
 use Rattle.points.specs.declared.insert_point.Up.the-variants.{Top, Via}
 use Rattle.points.specs.declared.insert_point.Point.{Point}

@@ -23,7 +23,7 @@ use tree::arrive;
 use tree::arrive::Arrival;
 use tree::minmax;
 use tree::minmax::Edge;
-use whole::witness;
+use tree::seen;
 
 // The record above, by its reference, with the byte that leads down from it; or none at the root.
 pub enum Up {
@@ -113,7 +113,7 @@ fn run_below(
     if leaf == 0 {
         return Run::Lost;
     }
-    let t = witness::tag_at(words, keys, f, leaf);
+    let t = seen::tag_at(words, keys, f, leaf);
     let c = agreed_from(tag, t, depth);
     if full <= c {
         return Run::Agrees(full);
@@ -262,7 +262,7 @@ fn step_at(
     let here = arrive::arrive(words, keys, f, left, reference);
     match here {
         Arrival::Leaf(_, _) => {
-            let t = witness::tag_at(words, keys, f, reference);
+            let t = seen::tag_at(words, keys, f, reference);
             Step::Final(at_leaf(tag, t, reference, depth, upper, up))
         }
         Arrival::Inner(kind, start) => {

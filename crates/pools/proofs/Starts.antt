@@ -15,7 +15,7 @@ use Rattle.frames.specs.Frame.{capsSmall, SmallCaps, backsOf}
 use Rattle.frames.specs.declared.form.Form.{Form}
 use Rattle.frames.specs.declared.frame.Caps.{Caps}
 use Rattle.frames.proofs.Frames.{caps-small}
-use Rattle.pools.specs.Start.{startFits, startFitsIn, trailerWords, Out, out, fresh, startIn, startOf}
+use Rattle.pools.specs.Start.{startFits, startFitsIn, trailerWords, out, fresh, startIn, startOf}
 use Rattle.pools.specs.declared.start.Started.the-variants.{Done, Refused}
 use Rattle.lists.proofs.Pieces.{zeros-then}
 

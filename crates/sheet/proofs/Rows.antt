@@ -22,7 +22,8 @@ use Rattle.tree.specs.Arrive.{arrivalAt, withFrame}
 use Rattle.tree.specs.Edge.{edgeRef, edgeStep, edgeOf}
 use Rattle.tree.specs.Walk as walk
 use Rattle.whole.specs.Marks.{placesIn, fresh, reached}
-use Rattle.whole.specs.Witness.{tagAt, goesOn, storedAgrees}
+use Rattle.tree.specs.Seen.{tagAt}
+use Rattle.whole.specs.Witness.{goesOn, storedAgrees}
 use Rattle.whole.specs.Visit.{leafVisit, turnAt, rowEnd, rowBy, recordBy}
 use Rattle.whole.specs.Sweep.{sweptAt, sweptPool, swept}
 use Rattle.whole.specs.Check.{rootWay, wayWell, wholeBy, checkOf}

@@ -43,7 +43,7 @@ use Rattle.view.proofs.Puts.{put-keeps, put-fits, put-trailer}
 use Rattle.view.proofs.Leaves.{words-long, words-cell, words-rule, bytes-long, total-long, total-rule, total-cell}
 use Rattle.view.proofs.Chains.{total-links}
 use Rattle.view.proofs.Trailers.{trailer-same, trailer-other}
-use Rattle.whole.specs.Witness.{tagAt, LeafSeen}
+use Rattle.tree.specs.Seen.{tagAt, LeafSeen}
 use Rattle.points.specs.There.{InnerFitsAt, HasChild}
 use Rattle.writes.specs.At.{changeAt, prefixedAt, branchAt, moveAt, dropAt, clearAt}
 use Rattle.writes.specs.Leaf.{leafIn, keyIn, leafOut, keyOut, totalAt}

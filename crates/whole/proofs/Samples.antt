@@ -13,7 +13,8 @@ use Rattle.records.specs.Own.{prefixAt, headOk, sortedOk, bodyOk, innerOk, leaf
 use Rattle.records.specs.Row.{bodyRow}
 use Rattle.tree.specs.Arrive.{arrivalAt}
 use Rattle.whole.specs.Marks.{placesIn, fresh, reached}
-use Rattle.whole.specs.Witness.{tagAt, goesOn, storedAgrees}
+use Rattle.tree.specs.Seen.{tagAt}
+use Rattle.whole.specs.Witness.{goesOn, storedAgrees}
 use Rattle.whole.specs.Visit.{leafVisit, turnAt, rowEnd, rowBy, recordBy}
 use Rattle.whole.specs.Sweep.{sweptAt, sweptPool, swept}
 use Rattle.whole.specs.Check.{rootWay, wayWell, wholeBy, wholeOf}

@@ -1,13 +1,13 @@
 -- The cases of the definition that takes a record and its row by turns, in the code's numbers; what is handed up is a leaf that was seen, and no more leaves are counted than
 -- records are marked.
-use Prim.Native.Nat.{ℕ, zero, suc, _+_, _-_, _/_, _%_, _≤_, _<_}
+use Prim.Native.Nat.{ℕ, zero, suc, _+_, _-_, _≤_, _<_}
 use mathlib.Core.Path.{_≡_, refl, sym, ap, subst, _∙_}
 use mathlib.Core.List.{List, [], _∷_}
 use mathlib.Core.Bool.{Bool, true, false, _&&_}
 use native.Mathlib.Omega.{arith}
 use lib.ListN.{length, getD}
 use lib.Dec.{eqb, leb, ltb}
-use borrow.Author.Tests.{eqb-true, eqb-false, leb-true, leb-false, ltb-true, le-leb, lt-leb}
+use borrow.Author.Tests.{eqb-false, leb-true, leb-false, ltb-true, le-leb, lt-leb}
 use Rattle.lists.specs.Scan.{choose, howMany, nonzero}
 use Rattle.lists.specs.Part.{between}
 use Rattle.lists.proofs.Tests.{both}
@@ -25,7 +25,9 @@ use Rattle.art.specs.Stores.{Place, leaf-place, inner-place}
 use Rattle.tree.specs.Arrive.{arrivalAt, arrived, onPath, InnerFitsFrom}
 use Rattle.whole.specs.Arrive.{There, innerRec}
 use Rattle.whole.specs.Marks.{fresh, reached}
-use Rattle.whole.specs.Witness.{LeafSeen, WitnessSeen, tagAt, goesOn, storedAgrees}
+use Rattle.tree.specs.Seen.{LeafSeen, tagAt}
+use Rattle.tree.proofs.Leaves.{leaf-arrived}
+use Rattle.whole.specs.Witness.{WitnessSeen, goesOn, storedAgrees}
 use Rattle.whole.specs.Visit.{Way, way, leafVisit, turnOf, turnAt, doneOf, firstOf, rowEnd, childEnd, wayOn, recordEnd, rowBy, rowFrom, rowOf, afterTurn, recordBy, rowWay, Sees, Counted, RecordReady, RowReady}
 use Rattle.tree.specs.declared.arrive.Arrival.{Arrival}
 use Rattle.tree.specs.declared.arrive.Arrival.the-variants.{Leaf, Inner, Broken}
@@ -228,30 +230,14 @@ module _ (f : Frame) (words keys : List ℕ) where
   pub no-witness : WitnessSeen f words keys 0
   no-witness = record { seen = λ e. absurd (e refl) }
 
-  -- a leaf that is arrived at was seen
-  leaf-picked : (left ref n start : ℕ) (b : Bool) → eqb (ref % 8) 5 ≡ b → (x : Place) → x ≡ choose b (leaf-place (ref / 8)) (inner-place (ref % 8) (ref / 8)) → (t : Bool)
-      → inPool f x && (ruleAt f words keys x && onPath left x) ≡ t → choose t (arrived f x) Broken ≡ Leaf n start → LeafSeen f words keys ref
-  leaf-picked left ref n start b k x p false q a = absurd (let z : _≡_ {A = ℕ} 0 1 = cc in omega arith)
-  leaf-picked left ref n start true k x p true q a =
-      let u = both (inPool f x) (ruleAt f words keys x && onPath left x) q in
-      record { kind = eqb-true _ _ k; pool = ap (inPool f) (sym p) ∙ u .0; rule = ap (ruleAt f words keys) (sym p) ∙ both (ruleAt f words keys x) (onPath left x) (u .1) .0 }
-  leaf-picked left ref n start false k x p true q a =
-      let z : _≡_ {A = Arrival} (arrived f (inner-place (ref % 8) (ref / 8))) (Leaf n start) = ap (arrived f) (sym p) ∙ a in
-      absurd (let y : _≡_ {A = ℕ} 0 1 = cc in omega arith)
-
-  pub leaf-arrived : (left ref n start : ℕ) → arrivalAt f words keys left (placeAt ref) ≡ Leaf n start → LeafSeen f words keys ref
-  unfolding arrivalAt
-  leaf-arrived left ref n start e =
-      leaf-picked left ref n start (eqb (ref % 8) 5) refl (placeAt ref) refl (inPool f (placeAt ref) && (ruleAt f words keys (placeAt ref) && onPath left (placeAt ref))) refl e
-
-  -- and is one more, where it follows
+  -- a leaf that is arrived at is one more, where it follows
   leaf-kept : (left ref : ℕ) (rec m : List ℕ) (s : Seen) (n start : ℕ) → arrivalAt f words keys left (placeAt ref) ≡ Leaf n start → fresh f ref m ≡ true → s .count ≤ howMany nonzero m
       → Kept (reached f ref m) (leafVisit rec ref s)
   unfolding leafVisit
   leaf-kept left ref rec m s n start e fr c = go (eqb (getD rec 2 0) (s .prev) && eqb (s .next) ref)
     where
       go : (b : Bool) → Kept (reached f ref m) (choose b (Well ref (record { prev = ref; next = getD rec 3 0; count = s .count + 1 })) Ill)
-      go true = (leaf-arrived left ref n start e, omega (arith, reached-count f ref m fr))
+      go true = (leaf-arrived f words keys left ref n start e, omega (arith, reached-count f ref m fr))
       go false = (tt, tt)
 
   child-kept : (e byte w : ℕ) (m : List ℕ) (v : Visit) → WitnessSeen f words keys w → Kept m v → Kept m (childEnd f words keys e byte w v)

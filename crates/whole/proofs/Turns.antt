@@ -11,7 +11,8 @@ use Rattle.frames.specs.declared.frame.Frame.{Frame}
 use Rattle.records.specs.Words.{fullLength, previousLeaf, nextLeaf}
 use Rattle.records.specs.Own.{prefixAt}
 use Rattle.whole.specs.Arrive.{innerRec}
-use Rattle.whole.specs.Witness.{LeafSeen, WitnessSeen, tagAt, goesOn, storedAgrees}
+use Rattle.tree.specs.Seen.{LeafSeen, tagAt}
+use Rattle.whole.specs.Witness.{WitnessSeen, goesOn, storedAgrees}
 use Rattle.whole.specs.Visit.{leafVisit, turnOf, firstOf, rowEnd, childEnd, recordEnd, Sees}
 use Rattle.tree.specs.declared.arrive.Arrival.{Arrival}
 use Rattle.tree.specs.declared.arrive.Arrival.the-variants.{Leaf, Inner, Broken}

@@ -35,7 +35,8 @@ use Rattle.art.specs.Witness.{Hand, Tells, goes-on, probe-more, probe-refs, pro
 use Rattle.tree.specs.Arrive.{arrivalAt, arrived, onPath}
 use Rattle.whole.specs.Arrive.{innerRec}
 use Rattle.whole.specs.Marks.{placesIn, markAt, unmarked, fresh, reached}
-use Rattle.whole.specs.Witness.{tagAt, storedAgrees}
+use Rattle.tree.specs.Seen.{tagAt}
+use Rattle.whole.specs.Witness.{storedAgrees}
 use Rattle.whole.specs.Visit.{Way, way, leafVisit, turnOf, turnAt, childEnd, wayOn, recordEnd, rowBy, rowOf, recordBy, rowWay}
 use Rattle.view.specs.Links.{linkAt, linksOf}
 use Rattle.tree.specs.declared.arrive.Arrival.{Arrival}

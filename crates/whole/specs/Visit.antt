@@ -15,7 +15,8 @@ use Rattle.records.specs.Row.{rowAt}
 use Rattle.tree.specs.Arrive.{arrivalAt, InnerFitsFrom}
 use Rattle.whole.specs.Arrive.{innerRec}
 use Rattle.whole.specs.Marks.{fresh, reached}
-use Rattle.whole.specs.Witness.{LeafSeen, WitnessSeen, tagAt, goesOn, storedAgrees}
+use Rattle.tree.specs.Seen.{LeafSeen, tagAt}
+use Rattle.whole.specs.Witness.{WitnessSeen, goesOn, storedAgrees}
 use Rattle.tree.specs.declared.arrive.Arrival.{Arrival}
 use Rattle.tree.specs.declared.arrive.Arrival.the-variants.{Leaf, Inner, Broken}
 use Rattle.whole.specs.declared.well_formed.Seen.{Seen}

@@ -1,6 +1,6 @@
 -- `apply::hang` meets its contract: one function for each site.
 use native.Mathlib.Omega.{arith}
-use Rattle.writes.proofs.Kept.{root-kept, change-kept}
+use Rattle.writes.proofs.Kept.{root-kept}
 use Rattle.insert.specs.Apply.{hung}
 use Rattle.insert.proofs.Cases.{words-long, add-ready, grow-ready, fork-ready, hung-by, add-kept}
 use borrow.Author.Needs.{needs}

@@ -1,7 +1,7 @@
 -- `insert_point::step_at` meets its contract: a leaf that was arrived at was seen, a record lies within the slices, and each arm is a case of `stepFrom`.
 use mathlib.Core.Path.{sym, _∙_}
 use Rattle.tree.proofs.Arrivals.{inner-there}
-use Rattle.whole.proofs.Turning.{leaf-arrived}
+use Rattle.tree.proofs.Leaves.{leaf-arrived}
 use Rattle.points.proofs.Steps.{step-as, step-leaf}
 use borrow.Author.Needs.{needs}
 use Rattle.points.proofs.insert_point.step_at.Statement.{statement}

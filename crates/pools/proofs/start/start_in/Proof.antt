@@ -1,6 +1,6 @@
 -- `start::start_in` meets its contract: nothing is written before the test; then all is cleared, and the trailer laid over the last 16 words.
 use Prim.Native.Nat.{ℕ}
-use mathlib.Core.Path.{refl, ap}
+use mathlib.Core.Path.{ap}
 use native.Mathlib.Omega.{arith}
 use lib.ListN.{length, length-replicate, length-take, length-drop}
 use borrow.Author.Needs.{needs}

@@ -1,9 +1,9 @@
--- `witness::tag_at` meets its contract: the tag is the front of the leaf's key bytes.
+-- `seen::tag_at` meets its contract: the tag is the front of the leaf's key bytes.
 use native.Mathlib.Omega.{arith}
-use Rattle.whole.proofs.Witnesses.{seen-bytes, seen-tag}
+use Rattle.tree.proofs.Leaves.{seen-bytes, seen-tag}
 use borrow.Author.Needs.{needs}
-use Rattle.whole.proofs.witness.tag_at.Statement.{statement}
-use Rattle.whole.proofs.witness.tag_at.Tie as tie
+use Rattle.tree.proofs.seen.tag_at.Statement.{statement}
+use Rattle.tree.proofs.seen.tag_at.Tie as tie
 
 mul-a : tie.Need-mul-a
 mul-a c = let p = c .before .before .before .pre in omega (arith, seen-bytes (p .0) (p .1))

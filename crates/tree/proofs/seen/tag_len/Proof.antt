@@ -1,10 +1,10 @@
--- `witness::tag_len` meets its contract: a leaf that obeys its rule lies within the words, and its length is at most the limit.
+-- `seen::tag_len` meets its contract: a leaf that obeys its rule lies within the words, and its length is at most the limit.
 use native.Mathlib.Omega.{arith}
 use Rattle.frames.proofs.Frames.{framed}
 use borrow.Author.Needs.{needs}
-use Rattle.whole.proofs.Witnesses.{seen-pool, seen-room, seen-length}
-use Rattle.whole.proofs.witness.tag_len.Statement.{statement}
-use Rattle.whole.proofs.witness.tag_len.Tie as tie
+use Rattle.tree.proofs.Leaves.{seen-pool, seen-room, seen-length}
+use Rattle.tree.proofs.seen.tag_len.Statement.{statement}
+use Rattle.tree.proofs.seen.tag_len.Tie as tie
 
 start-at-requires : tie.Need-start-at-requires
 start-at-requires c κs = (framed (c .before .before .pre .0), seen-pool (c .before .before .pre .1))
