@@ -36,6 +36,7 @@ use Rattle.states.proofs.Standing.{stands}
 use Rattle.states.proofs.OneCell.{used-pool}
 use Rattle.states.proofs.Sounds.{sound-state}
 use Rattle.insert.specs.Room.{LeavesFull, InnersFull, Lacks, Lacking}
+use Rattle.insert.proofs.Wants.{lacking-is}
 use Rattle.capacity.specs.Capacity.{cap, Large, AmpleFrame, Over, Tight}
 use Rattle.capacity.proofs.Counts.{PoolFull, tree-over, tags-most, tags-fewer, extras, extras-are, full-pool, one-record}
 
@@ -168,7 +169,9 @@ module _ {words keys : List ℕ} (s : Sound words keys) (tag : Tag) (bytes : Byt
     where
       go : (d : Option (Tree Held)) → Sane d → OnceOf d → State f words keys (store-of d) (linksOf f words) (rootWord words) (length (held d)) → P (store-of d) → ¬ Lacking f d tag
       go none g o st h = λ l. l
-      go (some t) g o st h = room t g o st h (art.point (suc (height t)) (store t []) (root t) tag) (point-fits (store t []) (suc (height t)) t g (store-shows t [] o) (omega arith) tag)
+      go (some t) g o st h =
+          subst (λ (lacks : Type 0). ¬ lacks) (lacking-is f t g o tag)
+          (room t g o st h (art.point (suc (height t)) (store t []) (root t) tag) (point-fits (store t []) (suc (height t)) t g (store-shows t [] o) (omega arith) tag))
 
   -- with kind 4 large enough, whatever was done to the block before
   pub never-lacks : Large f → ¬ LeavesFull f (store-of (s .tree)) → ¬ Lacking f (s .tree) tag

@@ -11,6 +11,7 @@ pub mod Plants
 pub mod Hangs
 pub mod Sounds
 pub mod Overs
+pub mod Wants
 pub mod Refusals
 pub mod Inserts
 pub mod KeyBytes

@@ -58,6 +58,7 @@ use Rattle.insert.specs.declared.plan.Plan.the-variants.{Over, New, Clas
 use Rattle.insert.specs.Room.{LeavesFull, InnersFull, Lacks, Lacking, Answers}
 use Rattle.insert.specs.Plan.{growChoice, intoChoice, forkWith, forkChoice, newPlan, sitePlan, leafPlan, pointPlan, planOf}
 use Rattle.range.specs.Range.{afterIs}
+use Rattle.insert.proofs.Wants.{lacking-is}
 use Rattle.insert.proofs.Afters.{after-shown}
 use Rattle.insert.proofs.Ready.{told-point, told-fits, into-fits}
 use Rattle.insert.proofs.Hangs.{root-not}
@@ -210,7 +211,9 @@ plan-answers {words} {keys} s tag bytes = go (s .tree) (sound-shown s) (sound-st
     go : (d : Option (Tree Held)) → Shown (frame words) words keys d → State (frame words) words keys (store-of d) (linksOf (frame words) words) (rootWord words) (length (held d))
         → Answers (judge tag (held d)) (LeavesFull (frame words) (store-of d)) (Lacking (frame words) d tag) (planOf (frame words) words keys tag)
     go none sh st = first-answers sh st tag
-    go (some t) sh st = tree-answers sh st tag bytes
+    go (some t) sh st =
+        subst (λ (lacks : Type 0). Answers (judge tag (contents t)) (LeavesFull (frame words) (store t [])) lacks (planOf (frame words) words keys tag)) (lacking-is (frame words) t (sh .good) (sh .once) tag)
+        (tree-answers sh st tag bytes)
 
 -- ── the conditions shut each other out, so that each answer is given exactly where its own holds ──
 free-known : {X : Type 0} {v : Verdict} → v ≡ free → v ≡ known → X
