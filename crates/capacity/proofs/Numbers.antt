@@ -10,6 +10,7 @@ use Rattle.whole.specs.Sound.{Sound}
 use Rattle.insert.specs.Room.{LeavesFull, Lacking}
 use Rattle.demands.specs.Calls.{edit, insert, Slices, number}
 use Rattle.demands.specs.Due.{Due, insert-lacking}
+use Rattle.demands.proofs.Leaves.{full-count}
 use Rattle.demands.proofs.Numbers.{number-due}
 use Rattle.capacity.specs.Capacity.{Large}
 use Rattle.capacity.proofs.Rooms.{never-lacks}
@@ -20,7 +21,7 @@ module _ (s : Slices) (tag : Tag) (total : ℕ) where
   Roomy = (z : Sound (s .words) (s .keys)) → ¬ LeavesFull (frame (s .words)) (store-of (z .tree)) → ¬ Lacking (frame (s .words)) (z .tree) tag
 
   due-five : Roomy → ¬ Due (edit (insert tag total)) s 5
-  due-five roomy (insert-lacking l p e a k) = roomy (p .sound) a k
+  due-five roomy (insert-lacking l p e a k) = roomy (p .sound) (λ u. a (full-count (p .sound) u)) k
 
   pub not-five : Bytes tag → Roomy → number (edit (insert tag total)) s ≢ some 5
   not-five bytes roomy e = due-five roomy (number-due (edit (insert tag total)) s 5 bytes e)

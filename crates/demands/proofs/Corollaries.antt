@@ -1,13 +1,12 @@
 -- Accepted changes to different tags draw the same tree in either order, and an unheld tag added and removed leaves the drawing: the listings are equal, and the listing decides the drawing.
 use Prim.Native.Nat.{ℕ}
-use mathlib.Core.Path.{_≡_, refl, sym, ap, subst, _∙_, fun-ext}
+use mathlib.Core.Path.{_≡_, refl, sym, ap, subst, _∙_}
 use mathlib.Core.Logic.{_≢_}
 use mathlib.Core.List.{List, []}
 use mathlib.Core.Option.{Option, none, some}
-use mathlib.Core.Bool.{true}
 use native.Mathlib.Omega.{arith}
 use Rattle.frames.specs.Frame.{rootWord, frame}
-use Rattle.frames.specs.Place.{placeAt, inPool}
+use Rattle.frames.specs.Place.{placeAt}
 use Rattle.frames.proofs.Places.{place-ref}
 use Rattle.records.specs.View.{Held, cellOf}
 use Rattle.art.specs.Tags.{Tag, Listing}
@@ -16,16 +15,11 @@ use Rattle.art.specs.Puts.{put}
 use Rattle.art.specs.Trees.{Tree}
 use Rattle.art.specs.Drawings.{draw}
 use Rattle.art.specs.Deletes.{held, Sane}
-use Rattle.art.specs.Stores.{Place, Used, Once, root}
+use Rattle.art.specs.Stores.{Used, root}
 use Rattle.art.specs.Calls.{OnceOf}
-use Rattle.art.specs.Points.{store-of}
-use Rattle.art.specs.Walks.{Shows}
-use Rattle.art.proofs.Stores.{own}
 use Rattle.art.proofs.ReadBack.{some-inj, shown-once}
-use Rattle.art.proofs.Walks.{store-shows}
 use Rattle.reading.specs.Answers.{Bytes}
 use Rattle.whole.specs.Sound.{Rooted, Sound}
-use Rattle.whole.proofs.Sounds.{used-pool}
 use Rattle.insert.specs.Answer as insert-answer
 use Rattle.insert.specs.Insert as insert-call
 use Rattle.insert.proofs.Calls.{short-fits}
@@ -37,48 +31,36 @@ use Rattle.delete.specs.declared.answer.Deleted.{Deleted}
 use Rattle.delete.specs.declared.answer.Deleted.the-variants as deleted
 use Rattle.demands.specs.Calls.{Edit, insert, delete, edit}
 use Rattle.demands.specs.Histories.{Block, next, leaves, nothing, insertChange, deleteChange, tagOf, changeOf, totals, amended}
-use Rattle.demands.specs.Drawn.{drawing}
+use Rattle.demands.specs.Drawn.{drawingOf}
 use Rattle.demands.specs.Accepts.{turn, Accepted, effect, done}
 use Rattle.demands.proofs.Changes.{insert-sound, over-held}
 use Rattle.demands.proofs.Cases.{insert-cases, delete-cases}
 use Rattle.demands.proofs.Totals.{total-of, totals-sorted, totals-lookup}
 use Rattle.demands.proofs.Steps.{held-sorted, step-sound}
 use Rattle.demands.proofs.KeyBytes.{step-bytes}
-use Rattle.demands.proofs.Histories.{drawing-is}
+use Rattle.demands.proofs.Drawings.{Cells, root-used, root-pool, tree-shown, drawing-held}
 use Rattle.demands.proofs.Swaps.{put-new, lookup-new, new-lookup, put-leave, lookup-put, lookup-alter, put-put, put-alter, alter-alter}
 
 -- ── a block has one tree, whoever found it sound ──
 module _ (words keys : List ℕ) where
-  abbrev Cells : Option (Tree Held) → Type 0
-  Cells d = (x : Place) → cellOf (frame words) words keys x ≡ store-of d x
-
-  root-used : (t : Tree Held) → Cells (some t) → Used (cellOf (frame words) words keys (root t))
-  root-used t h = subst Used (sym (h (root t))) (own t [])
-
-  root-pool : (t : Tree Held) → Cells (some t) → inPool (frame words) (root t) ≡ true
-  root-pool t h = used-pool (frame words) words keys (root t) (root-used t h)
-
-  tree-shown : (t : Tree Held) → Cells (some t) → Once t [] → Shows t [] (cellOf (frame words) words keys)
-  tree-shown t h o = subst (Shows t []) (sym (fun-ext h)) (store-shows t [] o)
-
-  same-tree : (d e : Option (Tree Held)) → Sane d → Sane e → OnceOf d → OnceOf e → Cells d → Cells e → Rooted (rootWord words) d → Rooted (rootWord words) e → d ≡ e
+  same-tree : (d e : Option (Tree Held)) → Sane d → Sane e → OnceOf d → OnceOf e → Cells words keys d → Cells words keys e → Rooted (rootWord words) d → Rooted (rootWord words) e → d ≡ e
   same-tree none none g g′ o o′ h h′ r r′ = refl
-  same-tree none (some u) g g′ o o′ h h′ r r′ = absurd (subst Used (h (root u)) (root-used u h′))
-  same-tree (some t) none g g′ o o′ h h′ r r′ = absurd (subst Used (h′ (root t)) (root-used t h))
+  same-tree none (some u) g g′ o o′ h h′ r r′ = absurd (subst Used (h (root u)) (root-used words keys u h′))
+  same-tree (some t) none g g′ o o′ h h′ r r′ = absurd (subst Used (h′ (root t)) (root-used words keys t h))
   same-tree (some t) (some u) g g′ o o′ h h′ r r′ =
-      ap some (shown-once t u g g′ [] (cellOf (frame words) words keys) (tree-shown t h o) (tree-shown u h′ o′)
-      (sym (place-ref (frame words) (root t) (root-pool t h)) ∙ ap placeAt (sym r ∙ r′) ∙ place-ref (frame words) (root u) (root-pool u h′)))
+      ap some (shown-once t u g g′ [] (cellOf (frame words) words keys) (tree-shown words keys t h o) (tree-shown words keys u h′ o′)
+      (sym (place-ref (frame words) (root t) (root-pool words keys t h)) ∙ ap placeAt (sym r ∙ r′) ∙ place-ref (frame words) (root u) (root-pool words keys u h′)))
 
 pub one-tree : {words keys : List ℕ} (s t : Sound words keys) → s .tree ≡ t .tree
 one-tree {words} {keys} s t = same-tree words keys (s .tree) (t .tree) (s .good) (t .good) (s .once) (t .once) (s .shown) (t .shown) (s .rooted) (t .rooted)
 
 -- so what it holds decides its drawing
-drawn-same : {words keys words′ keys′ : List ℕ} (s : Sound words keys) (t : Sound words′ keys′) → totals (held (s .tree)) ≡ totals (held (t .tree)) → drawing (s .tree) ≡ drawing (t .tree)
-drawn-same s t e = drawing-is (s .tree) (s .good) ∙ ap draw e ∙ sym (drawing-is (t .tree) (t .good))
+drawn-same : {words keys words′ keys′ : List ℕ} (s : Sound words keys) (t : Sound words′ keys′) → totals (held (s .tree)) ≡ totals (held (t .tree)) → drawingOf words keys ≡ drawingOf words′ keys′
+drawn-same s t e = drawing-held s ∙ ap draw e ∙ sym (drawing-held t)
 
 -- ── an accepted call ──
 -- an answer that changes nothing is not 0
-refused-insert : (tag : Tag) (total : ℕ) (a : Inserted) → insertChange tag total a ≡ nothing → insert-answer.numberOf a ≢ 0
+pub refused-insert : (tag : Tag) (total : ℕ) (a : Inserted) → insertChange tag total a ≡ nothing → insert-answer.numberOf a ≢ 0
 refused-insert tag total inserted.New e z = let q : _≡_ {A = ℕ} 0 1 = cc in omega arith
 refused-insert tag total (inserted.Over old) e z = let q : _≡_ {A = ℕ} 0 1 = cc in omega arith
 refused-insert tag total inserted.TooLong e z = omega arith
@@ -88,7 +70,7 @@ refused-insert tag total inserted.NoRecord e z = omega arith
 refused-insert tag total inserted.Damaged e z = omega arith
 refused-insert tag total inserted.ShortScratch e z = omega arith
 
-refused-delete : (tag : Tag) (a : Deleted) → deleteChange tag a ≡ nothing → delete-answer.numberOf a ≢ 0
+pub refused-delete : (tag : Tag) (a : Deleted) → deleteChange tag a ≡ nothing → delete-answer.numberOf a ≢ 0
 refused-delete tag (deleted.Gone old) e z = let q : _≡_ {A = ℕ} 0 1 = cc in omega arith
 refused-delete tag deleted.Missing e z = omega arith
 refused-delete tag deleted.Damaged e z = omega arith
@@ -98,7 +80,7 @@ module _ {words keys : List ℕ} (s : Sound words keys) where
   abbrev holds : Listing ℕ
   holds = totals (held (s .tree))
 
-  insert-does : (scratch tag : List ℕ) (total : ℕ) → Bytes tag → Bytes keys → let o = insert-call.insertOf words keys scratch tag total in
+  pub insert-does : (scratch tag : List ℕ) (total : ℕ) → Bytes tag → Bytes keys → let o = insert-call.insertOf words keys scratch tag total in
       insert-answer.numberOf (o .answer) ≡ 0 → insertChange tag total (o .answer) ≡ effect (insert tag total) (lookup tag holds)
   insert-does scratch tag total bytes key-bytes =
       insert-cases words keys tag total (λ o. insert-answer.numberOf (o .answer) ≡ 0 → insertChange tag total (o .answer) ≡ effect (insert tag total) (lookup tag holds))
@@ -153,29 +135,26 @@ done-done x y ne l h =
     ∙ sym (ap (λ (q : Option ℕ). amended (done y l) (effect x q)) (amended-lookup (tagOf x) y ne p l))
 
 -- ── the two corollaries ──
--- two changes to different tags draw the same tree in either order, where both orders are accepted
+-- two changes to different tags leave sound blocks that draw the same in either order, where both orders are accepted
 pub either-order : (b : Block) → Sound (b .words) (b .keys) → Bytes (b .keys) → (x y : Edit) → Bytes (tagOf x) → Bytes (tagOf y) → tagOf x ≢ tagOf y → (p q p′ q′ : List ℕ)
     → Accepted b x p → Accepted (next b (turn x p)) y q → Accepted b y q′ → Accepted (next b (turn y q′)) x p′
     → let xy = next (next b (turn x p)) (turn y q) in let yx = next (next b (turn y q′)) (turn x p′) in
-    (s : Sound (xy .words) (xy .keys)) (t : Sound (yx .words) (yx .keys)) → drawing (s .tree) ≡ drawing (t .tree)
-either-order b z k x y h i ne p q p′ q′ a c a′ c′ s t =
+    Sound (xy .words) (xy .keys) × Sound (yx .words) (yx .keys) × (drawingOf (xy .words) (xy .keys) ≡ drawingOf (yx .words) (yx .keys))
+either-order b z k x y h i ne p q p′ q′ a c a′ c′ =
     let first = edit-sound b z k x p h a in
     let second = edit-sound (next b (turn x p)) (first .0) (step-bytes b k (turn x p) h) y q i c in
     let first′ = edit-sound b z k y q′ i a′ in
     let second′ = edit-sound (next b (turn y q′)) (first′ .0) (step-bytes b k (turn y q′) i) x p′ h c′ in
     let order = totals-sorted (held (z .tree)) (held-sorted (z .tree) (z .good)) in
-    ap drawing (one-tree s (second .0))
-    ∙ drawn-same (second .0) (second′ .0) (second .1 ∙ ap (done y) (first .1) ∙ done-done x y ne (totals (held (z .tree))) order ∙ sym (second′ .1 ∙ ap (done x) (first′ .1)))
-    ∙ ap drawing (one-tree (second′ .0) t)
+    (second .0, second′ .0, drawn-same (second .0) (second′ .0) (second .1 ∙ ap (done y) (first .1) ∙ done-done x y ne (totals (held (z .tree))) order ∙ sym (second′ .1 ∙ ap (done x) (first′ .1))))
 
--- an unheld tag added and removed again restores the drawing
+-- an unheld tag added and removed again leaves a sound block with the drawing as it was
 pub restored : (b : Block) (z : Sound (b .words) (b .keys)) → Bytes (b .keys) → (tag : Tag) (total : ℕ) → Bytes tag → lookup tag (held (z .tree)) ≡ none → (p q : List ℕ)
     → Accepted b (insert tag total) p → Accepted (next b (turn (insert tag total) p)) (delete tag) q
-    → let after = next (next b (turn (insert tag total) p)) (turn (delete tag) q) in (s : Sound (after .words) (after .keys)) → drawing (s .tree) ≡ drawing (z .tree)
-restored b z k tag total h unheld p q a c s =
+    → let after = next (next b (turn (insert tag total) p)) (turn (delete tag) q) in Sound (after .words) (after .keys) × (drawingOf (after .words) (after .keys) ≡ drawingOf (b .words) (b .keys))
+restored b z k tag total h unheld p q a c =
     let l = totals (held (z .tree)) in
     let free : lookup tag l ≡ none = totals-lookup tag (held (z .tree)) ∙ ap total-of unheld in
     let first = edit-sound b z k (insert tag total) p h a in
     let second = edit-sound (next b (turn (insert tag total) p)) (first .0) (step-bytes b k (turn (insert tag total) p) h) (delete tag) q h c in
-    ap drawing (one-tree s (second .0))
-    ∙ drawn-same (second .0) z (second .1 ∙ ap (done (delete tag)) (first .1 ∙ ap (λ (o : Option ℕ). amended l (effect (insert tag total) o)) free) ∙ put-leave tag total l (new-lookup tag l free))
+    (second .0, drawn-same (second .0) z (second .1 ∙ ap (done (delete tag)) (first .1 ∙ ap (λ (o : Option ℕ). amended l (effect (insert tag total) o)) free) ∙ put-leave tag total l (new-lookup tag l free)))

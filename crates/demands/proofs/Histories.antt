@@ -2,40 +2,31 @@
 use Prim.Native.Nat.{ℕ, _+_}
 use mathlib.Core.Path.{_≡_, refl, sym, ap, subst, _∙_}
 use mathlib.Core.List.{List, [], _∷_}
-use mathlib.Core.Option.{Option, none, some}
+use mathlib.Core.Option.{Option}
 use lib.ListN.{length}
 use Rattle.frames.specs.declared.frame.Caps.{Caps}
 use Rattle.records.specs.View.{Held}
 use Rattle.art.specs.Tags.{Listing}
 use Rattle.art.specs.Trees.{Tree}
 use Rattle.art.specs.Drawings.{draw}
-use Rattle.art.specs.Deletes.{held, Sane}
-use Rattle.art.specs.Facts.{branchings, drawn}
-use Rattle.art.proofs.Drawings.{sketch-is-draw}
+use Rattle.art.specs.Deletes.{held}
+use Rattle.art.specs.Facts.{branchings}
 use Rattle.pools.specs.Start.{startOf}
 use Rattle.pools.specs.declared.start.Started.the-variants as started
 use Rattle.reading.specs.Answers.{Bytes}
 use Rattle.whole.specs.Sound.{Sound}
 use Rattle.demands.specs.Calls.{start}
 use Rattle.demands.specs.Histories.{Block, Turn, lent, next, after-all, changeOf, totals, amended, amended-all, Tally, tally, Tallied, counted, counted-all, AllBytes}
-use Rattle.demands.specs.Drawn.{plain-of, drawing}
 use Rattle.demands.specs.Story.{Story}
 use Rattle.demands.proofs.Reading.{sound-reads}
 use Rattle.demands.proofs.Listed.{sound-listed}
-use Rattle.demands.proofs.Totals.{totals-length, plain-held, plain-sane}
+use Rattle.demands.proofs.Totals.{totals-length}
+use Rattle.demands.proofs.Drawings.{drawing-held}
 use Rattle.demands.proofs.Steps.{step-sound, step-counts, start-sound}
 use Rattle.demands.proofs.KeyBytes.{start-bytes, step-bytes}
 use Rattle.demands.proofs.Inner.{used-inner-drawn}
 
 -- ── a sound block's story ──
--- a good tree draws what its tags and totals alone draw
-pub drawing-is : (d : Option (Tree Held)) → Sane d → drawing d ≡ draw (totals (held d))
-drawing-is d g = go (plain-of d) (plain-sane d g) ∙ ap draw (plain-held d)
-  where
-    go : (d : Option (Tree ℕ)) → Sane d → drawn d ≡ draw (held d)
-    go none h = refl
-    go (some t) h = sketch-is-draw t h
-
 pub sound-story : (b : Block) (s : Sound (b .words) (b .keys)) → Bytes (b .keys) → {l : Listing ℕ} {n : Tally} → totals (held (s .tree)) ≡ l → Tallied l n → Story b l n
 sound-story b s k {l} {n} e m = record {
   sound = s;
@@ -43,7 +34,7 @@ sound-story b s k {l} {n} e m = record {
   totals-are = e;
   reads = sound-reads s;
   listed = sound-listed b s;
-  draws = drawing-is (s .tree) (s .good) ∙ ap draw e;
+  draws = drawing-held s ∙ ap draw e;
   inner = used-inner-drawn s ∙ ap (λ (l : Listing ℕ). branchings (draw l)) e;
   count = ap (λ (k : ℕ). k + n .deletes) (s .count ∙ sym (totals-length (held (s .tree))) ∙ ap length e) ∙ m;
 }

@@ -28,9 +28,9 @@ use Rattle.view.proofs.Views.{cell-free, cell-used}
 use Rattle.whole.specs.Sound.{Sound}
 use Rattle.whole.proofs.Sounds.{used-pool}
 use Rattle.demands.specs.Histories.{totals}
-use Rattle.demands.specs.Drawn.{plain, usedBelow, usedOf, usedInner}
+use Rattle.demands.specs.Drawn.{usedBelow, usedOf, usedInner}
 use Rattle.demands.proofs.Sums.{sum, four, heft, row-heft, sum-same, four-empty, heft-four}
-use Rattle.demands.proofs.Totals.{plain-contents, plain-good, plain-forks}
+use Rattle.demands.proofs.Totals.{plain, plain-contents, plain-good, plain-forks}
 
 -- ── used cells of a store, counted ──
 abbrev pub one : Cell Held → ℕ

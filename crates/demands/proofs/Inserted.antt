@@ -25,10 +25,13 @@ use Rattle.insert.specs.declared.answer.Inserted.the-variants as inserted
 use Rattle.insert.specs.declared.plan.Plan.{Plan}
 use Rattle.insert.specs.declared.plan.Plan.the-variants as new
 use Rattle.insert.proofs.Refusals.{plan-answers, only-over, only-clash, only-full, only-lacking, only-new}
+use Rattle.demands.specs.Calls as calls
 use Rattle.demands.specs.Calls.{Slices}
+use Rattle.demands.specs.Told.{Told, toldBy}
 use Rattle.demands.specs.Due.{Passed, holds, Allowed}
 use Rattle.demands.specs.Listed.{InsertsListed}
 use Rattle.demands.proofs.Changes.{over-held}
+use Rattle.demands.proofs.Leaves.{full-count, count-full}
 use Rattle.demands.proofs.Tested.{insert-passed}
 
 -- ── a tag that the list has is judged as held ──
@@ -81,11 +84,16 @@ module _ (s : Slices) (t : Tag) (total : ℕ) (bytes : Bytes t) (fits : Allowed 
       let o = over-held z t bytes (r .1) in
       insert-passed s t total fits p (new.Over (r .0)) (r .1) ∙ ap inserted.Over (sym (o .2) ∙ ap (λ (a : Held). a .total) (some-inj (sym (o .1) ∙ e)))
 
-  pub inserts-listed : InsertsListed z t given
+  abbrev telling : Inserted → Told
+  telling a = toldBy (calls.inserted a)
+
+  pub inserts-listed : InsertsListed z t (telling given)
   inserts-listed = record {
-    over = listed-over;
-    clashes = λ v. insert-passed s t total fits p new.Clash (only-clash (judge t (holds z)) full lacking plan answers v);
-    full = λ v a. insert-passed s t total fits p new.NoLeaf (only-full (judge t (holds z)) full lacking plan answers v a);
-    lacks = λ v a b. insert-passed s t total fits p new.NoRecord (only-lacking (judge t (holds z)) full lacking plan answers v a b);
-    new = λ v a b. let r = only-new (judge t (holds z)) full lacking plan answers v a b in insert-passed s t total fits p (new.New (r .0) (r .1) (r .2)) (r .3);
+    over = λ h e. ap telling (listed-over h e);
+    clashes = λ v. ap telling (insert-passed s t total fits p new.Clash (only-clash (judge t (holds z)) full lacking plan answers v));
+    full = λ v a. ap telling (insert-passed s t total fits p new.NoLeaf (only-full (judge t (holds z)) full lacking plan answers v (count-full z a)));
+    lacks = λ v a b. ap telling (insert-passed s t total fits p new.NoRecord (only-lacking (judge t (holds z)) full lacking plan answers v (λ u. a (full-count z u)) b));
+    new = λ v a b.
+        let r = only-new (judge t (holds z)) full lacking plan answers v (λ u. a (full-count z u)) b in
+        ap telling (insert-passed s t total fits p (new.New (r .0) (r .1) (r .2)) (r .3));
   }

@@ -7,9 +7,11 @@ pub mod Cases
 pub mod Frames
 pub mod KeyBytes
 pub mod Totals
+pub mod Drawings
 pub mod Steps
 pub mod Sums
 pub mod Inner
+pub mod Leaves
 pub mod Histories
 pub mod Swaps
 pub mod Corollaries
@@ -18,3 +20,8 @@ pub mod Ways
 pub mod Inserted
 pub mod Numbers
 pub mod Listed
+pub mod Ledgers
+pub mod Demands
+pub mod Lasts
+pub mod Orderless
+pub mod Walks

@@ -1,38 +1,76 @@
 -- On every sound block, with scratch enough, each call answers as the sorted list of its tags and totals: what each call's own theorem says, said of the call's outcome.
 use Prim.Native.Nat.{ℕ}
-use mathlib.Core.Path.{refl, sym, ap, _∙_}
+use mathlib.Core.Path.{_≡_, refl, sym, ap, _∙_}
+use mathlib.Core.List.{List}
+use mathlib.Core.Option.{Option, none, some}
+use Rattle.records.specs.View.{Held}
+use Rattle.art.specs.Tags.{exact, begin}
+use Rattle.art.specs.Listings.{find, lookup}
+use Rattle.art.specs.Orders.{first-of, last-of, after}
+use Rattle.tree.specs.declared.answer.Found.{Found}
+use Rattle.tree.specs.declared.answer.Facts.{Facts}
 use Rattle.leaves.specs.Leaf.{nextLeafOf, factsOf, tagOf}
+use Rattle.reading.specs.Answers.{answerOf}
 use Rattle.whole.specs.Sound.{Sound}
-use Rattle.insert.specs.declared.answer.Inserted.the-variants as inserted
-use Rattle.range.specs.Range.{afterOf}
+use Rattle.whole.specs.declared.check.Checked.{Checked}
+use Rattle.range.specs.Range.{afterIs, afterOf}
+use Rattle.range.specs.declared.After.{After}
+use Rattle.insert.specs.declared.answer.Inserted.{Inserted}
+use Rattle.delete.specs.Meets as delete-answers
+use Rattle.delete.specs.declared.answer.Deleted.{Deleted}
 use Rattle.delete.proofs.Answers.{delete-meets}
 use Rattle.demands.specs.Calls as calls
 use Rattle.demands.specs.Calls.{Call, Slices, run}
+use Rattle.demands.specs.Told.{Told, toldBy}
 use Rattle.demands.specs.Histories.{Block, Turn, lent, answered, CallBytes}
-use Rattle.demands.specs.Listed.{Suffices, Listed}
+use Rattle.demands.specs.Due.{holds}
+use Rattle.demands.specs.Listed.{Suffices, finds, takes, Listed}
 use Rattle.demands.proofs.Numbers.{after-meets}
 use Rattle.demands.proofs.Reading.{sound-reads}
 use Rattle.demands.proofs.Tested.{check-passed, insert-too-long}
 use Rattle.demands.proofs.Inserted.{inserts-listed}
 
-listed-by : (s : Slices) (z : Sound (s .words) (s .keys)) (c : Call) → CallBytes c → Suffices c s → Listed z c (run c s .answer)
+-- ── what an answer by the list tells ──
+found-told : (o : Option Held) → toldBy (calls.found (answerOf o)) ≡ finds o
+found-told none = refl
+found-told (some h) = refl
+
+after-told : (o : Option Held) → toldBy (calls.after (afterIs o)) ≡ finds o
+after-told none = refl
+after-told (some h) = refl
+
+taken-told : (o : Option Held) → toldBy (calls.deleted (delete-answers.answerOf o)) ≡ takes o
+taken-told none = refl
+taken-told (some h) = refl
+
+abbrev found : Found → Told
+found a = toldBy (calls.found a)
+
+abbrev facts : Facts → Told
+facts a = toldBy (calls.facts a)
+
+abbrev tag : List ℕ → Told
+tag b = toldBy (calls.tag b)
+
+listed-by : (s : Slices) (z : Sound (s .words) (s .keys)) (c : Call) → CallBytes c → Suffices c s → Listed z c (toldBy (run c s .answer))
 unfolding afterOf
 listed-by s z (calls.start form c) b r = tt
-listed-by s z (calls.query (calls.search t)) b r = ap calls.found (sound-reads z .search t b)
-listed-by s z (calls.query (calls.prefix-search t)) b r = ap calls.found (sound-reads z .prefix-search t b)
-listed-by s z (calls.query calls.minimum) b r = ap calls.found (sound-reads z .minimum)
-listed-by s z (calls.query calls.maximum) b r = ap calls.found (sound-reads z .maximum)
+listed-by s z (calls.query (calls.search t)) b r = ap found (sound-reads z .search t b) ∙ found-told (find exact t (holds z))
+listed-by s z (calls.query (calls.prefix-search t)) b r = ap found (sound-reads z .prefix-search t b) ∙ found-told (find begin t (holds z))
+listed-by s z (calls.query calls.minimum) b r = ap found (sound-reads z .minimum) ∙ found-told (first-of (holds z))
+listed-by s z (calls.query calls.maximum) b r = ap found (sound-reads z .maximum) ∙ found-told (last-of (holds z))
 listed-by s z (calls.query (calls.next-leaf n)) b r =
-    (λ front e rest i j. ap (λ (m : ℕ). calls.found (nextLeafOf (s .words) (s .keys) m)) (sym j) ∙ ap calls.found (sound-reads z .next-leaf front e rest i), λ h. ap calls.found (sound-reads z .next-free n h))
+    (λ front e rest i j. ap (λ (m : ℕ). found (nextLeafOf (s .words) (s .keys) m)) (sym j) ∙ ap found (sound-reads z .next-leaf front e rest i) ∙ found-told (first-of rest), λ h. ap found (sound-reads z .next-free n h))
 listed-by s z (calls.query (calls.leaf-facts n)) b r =
-    (λ e i j. ap (λ (m : ℕ). calls.facts (factsOf (s .words) (s .keys) m)) (sym j) ∙ ap calls.facts (sound-reads z .leaf-facts e i), λ h. ap calls.facts (sound-reads z .facts-free n h))
+    (λ e i j. ap (λ (m : ℕ). facts (factsOf (s .words) (s .keys) m)) (sym j) ∙ ap facts (sound-reads z .leaf-facts e i), λ h. ap facts (sound-reads z .facts-free n h))
 listed-by s z (calls.query (calls.leaf-tag n)) b r =
-    (λ e i j. ap (λ (m : ℕ). calls.tag (tagOf (s .words) (s .keys) m)) (sym j) ∙ ap calls.tag (sound-reads z .leaf-tag e i), λ h. ap calls.tag (sound-reads z .tag-free n h))
-listed-by s z (calls.ask calls.check) b r = ap calls.checked (check-passed s (record { room = r; sound = z }))
-listed-by s z (calls.ask (calls.first-at-or-after t)) b r = ap calls.after (after-meets s t (record { room = r; sound = z }))
-listed-by s z (calls.edit (calls.insert t total)) b r = (λ h. ap calls.inserted (insert-too-long s t total h), λ h. (_, refl, inserts-listed s t total b h (record { room = r; sound = z })))
-listed-by s z (calls.edit (calls.delete t)) b r = ap calls.deleted (delete-meets z t b (s .scratch) r .answer)
+    (λ e i j. ap (λ (m : ℕ). tag (tagOf (s .words) (s .keys) m)) (sym j) ∙ ap tag (sound-reads z .leaf-tag e i), λ h. ap tag (sound-reads z .tag-free n h))
+listed-by s z (calls.ask calls.check) b r = ap (λ (a : Checked). toldBy (calls.checked a)) (check-passed s (record { room = r; sound = z }))
+listed-by s z (calls.ask (calls.first-at-or-after t)) b r = ap (λ (a : After). toldBy (calls.after a)) (after-meets s t (record { room = r; sound = z })) ∙ after-told (after t (holds z))
+listed-by s z (calls.edit (calls.insert t total)) b r =
+    (λ h. ap (λ (a : Inserted). toldBy (calls.inserted a)) (insert-too-long s t total h), λ h. inserts-listed s t total b h (record { room = r; sound = z }))
+listed-by s z (calls.edit (calls.delete t)) b r = ap (λ (a : Deleted). toldBy (calls.deleted a)) (delete-meets z t b (s .scratch) r .answer) ∙ taken-told (lookup t (holds z))
 
 -- demand 2: on every sound block, with scratch enough, each call answers as the sorted list of what the block holds
-pub sound-listed : (b : Block) (s : Sound (b .words) (b .keys)) (t : Turn) → CallBytes (t .call) → Suffices (t .call) (lent b t) → Listed s (t .call) (answered b t)
+pub sound-listed : (b : Block) (s : Sound (b .words) (b .keys)) (t : Turn) → CallBytes (t .call) → Suffices (t .call) (lent b t) → Listed s (t .call) (toldBy (answered b t))
 sound-listed b s t h r = listed-by (lent b t) s (t .call) h r

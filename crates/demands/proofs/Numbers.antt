@@ -35,7 +35,7 @@ use Rattle.tree.specs.declared.lookup.Aim.the-variants.{Exact, Begin}
 use Rattle.tree.specs.declared.minmax.Edge.the-variants.{Low, High}
 use Rattle.leaves.specs.declared.LeafState.{LeafState}
 use Rattle.leaves.specs.declared.LeafState.the-variants.{Good, Broken, NoLeaf}
-use Rattle.reading.specs.Answers.{Bytes, answerOf}
+use Rattle.reading.specs.Answers.{Bytes}
 use Rattle.whole.specs.Check as check-call
 use Rattle.whole.specs.Check.{checkOf}
 use Rattle.whole.specs.Sound.{Sound}
@@ -63,12 +63,13 @@ use Rattle.delete.specs.declared.plan.Plan.the-variants as gone
 use Rattle.delete.proofs.Answers as delete-answers
 use Rattle.demands.specs.Calls.{Query, search, prefix-search, minimum, maximum, next-leaf, leaf-facts, leaf-tag, Asked, check, first-at-or-after, insert, delete}
 use Rattle.demands.specs.Calls.{Call, start, query, ask, edit, Slices, numberOf, given, checks, number}
+use Rattle.demands.specs.Told.{Told}
 use Rattle.demands.specs.Histories.{CallBytes}
 use Rattle.demands.specs.Due as due
 use Rattle.demands.specs.Due.{Unframed, Fitting, Passed, holds, InUse, obeys, nextRef, namesLeaf, nextNamed, Numbered, OnLeaf, of-next, of-facts, Allowed, Due}
 use Rattle.demands.proofs.Changes.{over-held}
+use Rattle.demands.proofs.Leaves.{full-count, count-full}
 use Rattle.demands.proofs.Inserted.{inserts-listed}
-use Rattle.demands.proofs.Reading.{sound-reads}
 use Rattle.demands.proofs.Ways.{meets-number, met, ends-number, ended}
 use Rattle.demands.proofs.Tested.{Tests, unframed, short, unsound, passed, tested, check-unframed, check-short, check-unsound, check-passed, insert-too-long, insert-by, delete-by, delete-passed}
 
@@ -169,7 +170,7 @@ query-number minimum s h e = ap (λ (a : Found). some (foundNumber a)) (unframed
 query-number maximum s h e = ap (λ (a : Found). some (foundNumber a)) (unframed-is s e _ _)
 query-number (next-leaf n) s h e = ap (λ (a : Found). some (foundNumber a)) (unframed-is s e _ _)
 query-number (leaf-facts n) s h e = ap (λ (a : Facts). some (factsNumber a)) (unframed-is s e _ _)
-query-number (leaf-tag n) s h e = absurd h
+query-number (leaf-tag n) s h e = absurd (h n refl)
 
 -- what the two calls on a leaf number refuse
 abbrev refusal : LeafState → ℕ
@@ -221,7 +222,7 @@ over-number s t total bytes fits p e =
     let answers = refusals.plan-answers z t bytes in
     let r = refusals.only-over (judge t (holds z)) (room.LeavesFull (frame (s .words)) (store-of (z .tree))) (room.Lacking (frame (s .words)) (z .tree) t) (insert-plan.planOf (frame (s .words)) (s .words) (s .keys) t) answers e in
     let o = over-held z t bytes (r .1) in
-    ap insert-answer.numberOf (inserts-listed s t total bytes fits p .over (o .0) (o .1))
+    ap (λ (a : Told). a .number) (inserts-listed s t total bytes fits p .over (o .0) (o .1))
 
 pub due-number : {c : Call} {s : Slices} {n : ℕ} → CallBytes c → Due c s n → number c s ≡ some n
 unfolding afterOf
@@ -235,17 +236,9 @@ due-number b (due.checked-unframed {c} {s} h e) = checked-number c s h checked.D
 due-number b (due.checked-short {c} {s} h e) = checked-number c s h checked.ShortScratch (check-short s e) (λ z. omega arith)
 due-number b (due.checked-unsound {c} {s} h e) = checked-number c s h checked.Damaged (check-unsound s e) (λ z. omega arith)
 due-number b (due.search-walked {t} {s} fits m) = ap some (ap foundNumber (framed-is s fits _ _) ∙ meets-number (frame (s .words)) (s .words) (s .keys) t Exact m)
-due-number b (due.search-missing {t} {s} z e) = ap (λ (a : Found). some (foundNumber a)) (sound-reads z .search t b ∙ ap answerOf e)
-due-number b (due.search-found {t} {s} z h e) = ap (λ (a : Found). some (foundNumber a)) (sound-reads z .search t b ∙ ap answerOf e)
 due-number b (due.prefix-walked {t} {s} fits m) = ap some (ap foundNumber (framed-is s fits _ _) ∙ meets-number (frame (s .words)) (s .words) (s .keys) t Begin m)
-due-number b (due.prefix-missing {t} {s} z e) = ap (λ (a : Found). some (foundNumber a)) (sound-reads z .prefix-search t b ∙ ap answerOf e)
-due-number b (due.prefix-found {t} {s} z h e) = ap (λ (a : Found). some (foundNumber a)) (sound-reads z .prefix-search t b ∙ ap answerOf e)
 due-number b (due.minimum-walked {s} fits m) = ap some (ap foundNumber (framed-is s fits _ _) ∙ ends-number (frame (s .words)) (s .words) (s .keys) Low m)
-due-number b (due.minimum-missing {s} z e) = ap (λ (a : Found). some (foundNumber a)) (sound-reads z .minimum ∙ ap answerOf e)
-due-number b (due.minimum-found {s} z h e) = ap (λ (a : Found). some (foundNumber a)) (sound-reads z .minimum ∙ ap answerOf e)
 due-number b (due.maximum-walked {s} fits m) = ap some (ap foundNumber (framed-is s fits _ _) ∙ ends-number (frame (s .words)) (s .words) (s .keys) High m)
-due-number b (due.maximum-missing {s} z e) = ap (λ (a : Found). some (foundNumber a)) (sound-reads z .maximum ∙ ap answerOf e)
-due-number b (due.maximum-found {s} z h e) = ap (λ (a : Found). some (foundNumber a)) (sound-reads z .maximum ∙ ap answerOf e)
 due-number b (due.next-unnamed {n} {s} u r ne e) = ap some (next-names s n u r ne false e)
 due-number b (due.next-end {n} {s} u r e) = ap some (next-end s n u r e)
 due-number b (due.next-done {n} {s} u r ne e) = ap some (next-names s n u r ne true e)
@@ -255,10 +248,10 @@ due-number b (due.after-missing {t} {s} p e) = ap (λ (a : After). some (after-c
 due-number b (due.after-found {t} {s} p h e) = ap (λ (a : After). some (after-call.numberOf a)) (after-meets s t p ∙ ap afterIs e)
 due-number b (due.insert-long {t} {total} {s} l) = ap (λ (a : Inserted). some (insert-answer.numberOf a)) (insert-too-long s t total l)
 due-number b (due.insert-over {t} {total} {s} l p e) = ap some (over-number s t total b l p e)
-due-number b (due.insert-clash {t} {total} {s} l p e) = ap (λ (a : Inserted). some (insert-answer.numberOf a)) (inserts-listed s t total b l p .clashes e)
-due-number b (due.insert-full {t} {total} {s} l p e a) = ap (λ (a : Inserted). some (insert-answer.numberOf a)) (inserts-listed s t total b l p .full e a)
-due-number b (due.insert-lacking {t} {total} {s} l p e a k) = ap (λ (a : Inserted). some (insert-answer.numberOf a)) (inserts-listed s t total b l p .lacks e a k)
-due-number b (due.insert-new {t} {total} {s} l p e a k) = ap (λ (a : Inserted). some (insert-answer.numberOf a)) (inserts-listed s t total b l p .new e a k)
+due-number b (due.insert-clash {t} {total} {s} l p e) = ap (λ (a : Told). some (a .number)) (inserts-listed s t total b l p .clashes e)
+due-number b (due.insert-full {t} {total} {s} l p e a) = ap (λ (a : Told). some (a .number)) (inserts-listed s t total b l p .full e a)
+due-number b (due.insert-lacking {t} {total} {s} l p e a k) = ap (λ (a : Told). some (a .number)) (inserts-listed s t total b l p .lacks e a k)
+due-number b (due.insert-new {t} {total} {s} l p e a k) = ap (λ (a : Told). some (a .number)) (inserts-listed s t total b l p .new e a k)
 due-number b (due.delete-missing {t} {s} p e) = ap some (delete-number s t b p gone.Missing (delete-answers.held-missing (p .sound) t b e))
 due-number b (due.delete-held {t} {s} p h e) = ap some (delete-done s t b p h e)
 
@@ -271,6 +264,11 @@ Row c s = (n : ℕ) × Due c s n
 by-found : {c : Call} {s : Slices} (o : Option Held) {o′ : Option Held} → o′ ≡ o → (o′ ≡ none → Due c s 1) → ((h : Held) → o′ ≡ some h → Due c s 0) → Row c s
 by-found none e miss hit = (1, miss e)
 by-found (some h) e miss hit = (0, hit h e)
+
+-- a query on a leaf number gives a number
+on-leaf : {q : Query} {n : ℕ} → OnLeaf q n → Numbered q
+on-leaf (of-next n) m e = let z : _≡_ {A = ℕ} 0 1 = cc in omega arith
+on-leaf (of-facts n) m e = let z : _≡_ {A = ℕ} 0 1 = cc in omega arith
 
 -- a query: by the frame, then as the walk meets it
 by-frame : {q : Query} {s : Slices} → Numbered q → (Fitting s → Row (query q) s) → Row (query q) s
@@ -292,8 +290,8 @@ start-row form c s true e = (0, due.start-done e)
 start-row form c s false e = (8, due.start-refused e)
 
 -- a leaf number: the frame, the pool, word 0 and the rule
-by-leaf : {q : Query} {n : ℕ} (s : Slices) → Numbered q → OnLeaf q n → (InUse s n → obeys s n ≡ true → Row (query q) s) → Row (query q) s
-by-leaf {q} {n} s m k good = by-frame m (λ p. go p (inPool (frame (s .words)) (leaf-place n)) refl (eqb word 0) refl (obeys s n) refl)
+by-leaf : {q : Query} {n : ℕ} (s : Slices) → OnLeaf q n → (InUse s n → obeys s n ≡ true → Row (query q) s) → Row (query q) s
+by-leaf {q} {n} s k good = by-frame (on-leaf k) (λ p. go p (inPool (frame (s .words)) (leaf-place n)) refl (eqb word 0) refl (obeys s n) refl)
   where
     word : ℕ
     word = getD (recordAt (frame (s .words)) (s .words) (leaf-place n)) 0 0
@@ -315,10 +313,10 @@ next-row s n u r = go (eqb (nextRef s n) 0) refl (nextNamed s (nextRef s n)) ref
 plan-row : (s : Slices) (t : Tag) (total : ℕ) → Allowed t s → (p : Passed s) (q : Plan)
     → room.Answers (judge t (holds (p .sound))) (room.LeavesFull (frame (s .words)) (store-of (p .sound .tree))) (room.Lacking (frame (s .words)) (p .sound .tree) t) q → Row (edit (insert t total)) s
 plan-row s t total l p (new.Over leaf) h = (0, due.insert-over l p h)
-plan-row s t total l p (new.New site n gap) h = (0, due.insert-new l p (h .0) (h .1) (h .2))
+plan-row s t total l p (new.New site n gap) h = (0, due.insert-new l p (h .0) (λ f. h .1 (count-full (p .sound) f)) (h .2))
 plan-row s t total l p new.Clash h = (3, due.insert-clash l p h)
-plan-row s t total l p new.NoLeaf h = (4, due.insert-full l p (h .0) (h .1))
-plan-row s t total l p new.NoRecord h = (5, due.insert-lacking l p (h .0) (h .1) (h .2))
+plan-row s t total l p new.NoLeaf h = (4, due.insert-full l p (h .0) (full-count (p .sound) (h .1)))
+plan-row s t total l p new.NoRecord h = (5, due.insert-lacking l p (h .0) (λ f. h .1 (count-full (p .sound) f)) (h .2))
 plan-row s t total l p new.Broken h = absurd h
 
 insert-row : (s : Slices) (t : Tag) (total : ℕ) → Bytes t → (b : Bool) → tooLong (s .words) (s .keys) t ≡ b → Row (edit (insert t total)) s
@@ -328,12 +326,12 @@ insert-row s t total bytes false e =
 
 due-row : (c : Call) (s : Slices) (n : ℕ) → CallBytes c → number c s ≡ some n → Row c s
 due-row (start form c) s n b i = start-row form c s (startFitsIn form c (length (s .words)) (length (s .keys))) refl
-due-row (query (search t)) s n b i = by-frame tt (λ e. let m = met (frame (s .words)) (s .words) (s .keys) t Exact in (m .0, due.search-walked e (m .1)))
-due-row (query (prefix-search t)) s n b i = by-frame tt (λ e. let m = met (frame (s .words)) (s .words) (s .keys) t Begin in (m .0, due.prefix-walked e (m .1)))
-due-row (query minimum) s n b i = by-frame tt (λ e. let m = ended (frame (s .words)) (s .words) (s .keys) Low in (m .0, due.minimum-walked e (m .1)))
-due-row (query maximum) s n b i = by-frame tt (λ e. let m = ended (frame (s .words)) (s .words) (s .keys) High in (m .0, due.maximum-walked e (m .1)))
-due-row (query (next-leaf k)) s n b i = by-leaf s tt (of-next k) (next-row s k)
-due-row (query (leaf-facts k)) s n b i = by-leaf s tt (of-facts k) (λ u r. (0, due.facts-done u r))
+due-row (query (search t)) s n b i = by-frame (λ m q. let z : _≡_ {A = ℕ} 0 1 = cc in omega arith) (λ e. let m = met (frame (s .words)) (s .words) (s .keys) t Exact in (m .0, due.search-walked e (m .1)))
+due-row (query (prefix-search t)) s n b i = by-frame (λ m q. let z : _≡_ {A = ℕ} 0 1 = cc in omega arith) (λ e. let m = met (frame (s .words)) (s .words) (s .keys) t Begin in (m .0, due.prefix-walked e (m .1)))
+due-row (query minimum) s n b i = by-frame (λ m q. let z : _≡_ {A = ℕ} 0 1 = cc in omega arith) (λ e. let m = ended (frame (s .words)) (s .words) (s .keys) Low in (m .0, due.minimum-walked e (m .1)))
+due-row (query maximum) s n b i = by-frame (λ m q. let z : _≡_ {A = ℕ} 0 1 = cc in omega arith) (λ e. let m = ended (frame (s .words)) (s .words) (s .keys) High in (m .0, due.maximum-walked e (m .1)))
+due-row (query (next-leaf k)) s n b i = by-leaf s (of-next k) (next-row s k)
+due-row (query (leaf-facts k)) s n b i = by-leaf s (of-facts k) (λ u r. (0, due.facts-done u r))
 due-row (query (leaf-tag k)) s n b i = let z : _≡_ {A = ℕ} 0 1 = cc in absurd (omega arith)
 due-row (ask check) s n b i = by-tests refl (λ p. (0, due.check-sound p)) (tested s)
 due-row (ask (first-at-or-after t)) s n b i =

@@ -1,12 +1,14 @@
 -- An answer that is a refusal carries nothing beside its number; and a leaf's tag is as long as its facts say, both by the leaf's own record.
-use Prim.Native.Nat.{ℕ, zero, suc, _+_, _*_, _≤_, _<_}
+use Prim.Native.Nat.{ℕ, zero, suc, _+_, _-_, _*_, _≤_, _<_}
 use mathlib.Core.Path.{_≡_, refl, sym, ap, _∙_}
 use mathlib.Core.Logic.{_≢_}
 use mathlib.Core.List.{List, []}
 use mathlib.Core.Option.{Option, some}
 use mathlib.Core.Bool.{Bool, true, false}
+use native.Mathlib.Decide.{decLe}
 use native.Mathlib.Omega.{arith}
-use lib.ListN.{length, take, length-take}
+use lib.ListN.{length, take, drop, length-take}
+use Rattle.lists.specs.Part.{between}
 use Rattle.lists.proofs.Parts.{between-length}
 use Rattle.frames.specs.Frame.{FrameOf, frameFits, frame}
 use Rattle.frames.specs.Place.{recordAt, keyAt}
@@ -21,14 +23,14 @@ use Rattle.tree.proofs.Arrivals.{frame-out}
 use Rattle.leaves.specs.Leaf.{leafState, factsFrom, factsOf, lenFrom, tagLen, tagOf}
 use Rattle.leaves.specs.declared.LeafState.{LeafState}
 use Rattle.leaves.specs.declared.LeafState.the-variants.{Good, Broken, NoLeaf}
-use Rattle.leaves.proofs.Leaves.{tag-short, facts-by, len-by, tag-by}
+use Rattle.leaves.proofs.Leaves.{tag-short, tag-part, facts-by, len-by, tag-by}
 use Rattle.whole.specs.declared.check.Checked.the-variants as checked
 use Rattle.range.specs.declared.After.the-variants as after
 use Rattle.insert.specs.declared.answer.Inserted.the-variants as inserted
 use Rattle.delete.specs.declared.answer.Deleted.the-variants as deleted
 use Rattle.demands.specs.Calls as calls
 use Rattle.demands.specs.Calls.{Call, query, leaf-facts, leaf-tag, Slices, Answer, numberOf, run, number}
-use Rattle.demands.specs.Told.{Told, only, toldBy}
+use Rattle.demands.specs.Told.{Told, only, withTag, toldBy}
 
 -- ── a refusal ──
 -- where the number is not 0, nothing else is told
@@ -106,3 +108,39 @@ tag-facts n s = go (frameFits (s .words) (s .keys)) refl
         ap length (sym (tag-by w n _ refl)) ∙ tag-long w n ∙ sym (len-by w n x refl) ∙ facts-len rec x ∙ ap factsLength (facts-by w n x refl)
     go false e = ap length (sym (frame-out (s .words) (s .keys) (λ f. take (tagLen f (s .words) (s .keys) n) (keyAt f (s .keys) n)) [] e))
         ∙ ap factsLength (frame-out (s .words) (s .keys) (λ f. factsFrom (recordAt f (s .words) (leaf-place n)) (leafState f (s .words) (s .keys) n)) facts.Damaged e)
+
+-- and it is that part of the key bytes, from the leaf's own first one on
+pub tag-part-told : (n : ℕ) (s : Slices) → let at : ℕ = n * frame (s .words) .form .limit in let m : ℕ = toldBy (run (query (leaf-facts n)) s .answer) .length in
+    toldBy (run (query (leaf-tag n)) s .answer) ≡ withTag (between (s .keys) at (at + m)) (only 0)
+tag-part-told n s = ap (λ (b : List ℕ). withTag b (only 0)) (is ∙ ap (λ (j : ℕ). between (s .keys) at (at + j)) (tag-facts n s))
+  where
+    at : ℕ
+    at = n * frame (s .words) .form .limit
+
+    tag : List ℕ
+    tag = tagOf (s .words) (s .keys) n
+
+    empty : tag ≡ [] → tag ≡ between (s .keys) at (at + length tag)
+    empty e =
+        let z : length tag ≡ 0 = ap length e in
+        let q : 0 ≡ at + length tag - at = omega arith in
+        e ∙ ap (λ (j : ℕ). take j (drop at (s .keys))) q
+
+    short : FrameOf (frame (s .words)) (s .words) (s .keys) → tagLen (frame (s .words)) (s .words) (s .keys) n ≤ frame (s .words) .form .limit
+    short w = pick (decLe 1 (tagLen (frame (s .words)) (s .words) (s .keys) n))
+      where
+        pick : Dec (1 ≤ tagLen (frame (s .words)) (s .words) (s .keys) n) → tagLen (frame (s .words)) (s .words) (s .keys) n ≤ frame (s .words) .form .limit
+        pick (yes h) = tag-short w n h .0
+        pick (no h) = omega arith
+
+    is : tag ≡ between (s .keys) at (at + length tag)
+    is = go (frameFits (s .words) (s .keys)) refl
+      where
+        go : (b : Bool) → frameFits (s .words) (s .keys) ≡ b → tag ≡ between (s .keys) at (at + length tag)
+        go true e =
+            let f = frame (s .words) in
+            let w : FrameOf f (s .words) (s .keys) = record { read = refl; fits = e } in
+            let same : take (tagLen f (s .words) (s .keys) n) (keyAt f (s .keys) n) ≡ tag = tag-by w n _ refl in
+            let long : length tag ≡ tagLen f (s .words) (s .keys) n = ap length (sym same) ∙ tag-long w n in
+            sym same ∙ sym (tag-part w n (tagLen f (s .words) (s .keys) n) (short w)) ∙ ap (λ (j : ℕ). between (s .keys) at (at + j)) (sym long)
+        go false e = empty (sym (frame-out (s .words) (s .keys) (λ f. take (tagLen f (s .words) (s .keys) n) (keyAt f (s .keys) n)) [] e))

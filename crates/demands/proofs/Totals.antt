@@ -10,10 +10,8 @@ use Rattle.art.specs.Tags.{Tag, Listing, Less, Before, tag-dec, exact, fits-dec
 use Rattle.art.specs.Listings.{Every, Sorted, under, lookup}
 use Rattle.art.specs.Puts.{less-dec, put, keep, alter}
 use Rattle.art.specs.Trees.{Tree, leaf, inner, Row, end, child, contents, row-contents, Good, GoodRow, Above, count}
-use Rattle.art.specs.Deletes.{held, Sane}
 use Rattle.art.specs.Facts.{forks, row-forks}
 use Rattle.demands.specs.Histories.{totals}
-use Rattle.demands.specs.Drawn.{plain, plain-row, plain-of}
 
 -- the total, where something is held
 abbrev pub total-of : Option Held → Option ℕ
@@ -72,6 +70,16 @@ totals-lookup s (e ∷ l) = go (fits-dec exact s (e .0)) (totals-lookup s l)
     go (no h) ih = ih
 
 -- ── trees ──
+-- with the totals alone at the leaves
+abbrev mutual
+  pub plain : Tree Held → Tree ℕ
+  plain (leaf n s a) = leaf n s (a .total)
+  plain (inner k n run r) = inner k n run (plain-row r)
+
+  pub plain-row : Row Held → Row ℕ
+  plain-row end = end
+  plain-row (child b t r) = child b (plain t) (plain-row r)
+
 mutual
   pub plain-contents : (t : Tree Held) → contents (plain t) ≡ totals (contents t)
   plain-contents (leaf n s a) = refl
@@ -100,14 +108,6 @@ mutual
   pub plain-row-good : (r : Row Held) → GoodRow r → GoodRow (plain-row r)
   plain-row-good end g = tt
   plain-row-good (child b t r) g = (plain-good t (g .0), plain-above b r (g .1), plain-row-good r (g .2))
-
-pub plain-held : (d : Option (Tree Held)) → held (plain-of d) ≡ totals (held d)
-plain-held none = refl
-plain-held (some t) = plain-contents t
-
-pub plain-sane : (d : Option (Tree Held)) → Sane d → Sane (plain-of d)
-plain-sane none g = tt
-plain-sane (some t) g = plain-good t g
 
 mutual
   pub plain-forks : (t : Tree Held) → forks (plain t) ≡ forks t

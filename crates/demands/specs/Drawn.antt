@@ -1,37 +1,36 @@
--- What a sound block draws: tags, lengths, first bytes, child bytes and totals, and no address; and how many of its inner records are in use.
+-- What a block draws: tags, lengths, first bytes, child bytes and totals, and no address; and how many of its inner records are in use.
 use Prim.Native.Nat.{ℕ, zero, suc, _+_}
-use mathlib.Core.List.{List}
-use mathlib.Core.Option.{Option, none, some}
+use mathlib.Core.List.{List, [], _∷_}
 use lib.ListN.{getD}
 use Rattle.lists.specs.Scan.{choose, nonzero}
 use Rattle.frames.specs.declared.frame.Frame.{Frame}
-use Rattle.records.specs.View.{Held}
-use Rattle.art.specs.Trees.{Tree, leaf, inner, Row, end, child}
-use Rattle.art.specs.Drawings.{Drawing}
-use Rattle.art.specs.Stores.{inner-place}
-use Rattle.art.specs.Facts.{drawn}
+use Rattle.frames.specs.Frame.{frame, rootWord}
+use Rattle.frames.specs.Place.{placeAt}
+use Rattle.records.specs.View.{Held, cellOf}
+use Rattle.art.specs.Drawings.{Drawing, nothing, one, branch, Kids, done, kid}
+use Rattle.art.specs.Stores.{Place, inner-place, Cell, unused, leaf-cell, inner-cell, Store}
 use Rattle.view.specs.Cells.{wordZero}
-use Rattle.frames.specs.Frame.{frame}
 
--- the tree with the totals alone at its leaves
-abbrev mutual
-  pub plain : Tree Held → Tree ℕ
-  plain (leaf n s a) = leaf n s (a .total)
-  plain (inner k n run r) = inner k n run (plain-row r)
+-- ── the drawing, read from the records ──
+-- the children of a row, by what stands below each of its places
+abbrev pub kidsDrawn : List (ℕ × Place) → (Place → Drawing ℕ) → Kids ℕ
+kidsDrawn [] below = done
+kidsDrawn (e ∷ rs) below = kid (e .0) (below (e .1)) (kidsDrawn rs below)
 
-  -- and so for each child of a row
-  pub plain-row : Row Held → Row ℕ
-  plain-row end = end
-  plain-row (child b t r) = child b (plain t) (plain-row r)
+-- one record: nothing where it is free, a leaf's tag and total, or an inner record's length, first bytes and children
+abbrev pub cellDrawn : Cell Held → (Place → Drawing ℕ) → Drawing ℕ
+cellDrawn unused below = nothing
+cellDrawn (leaf-cell t a) below = one t (a .total)
+cellDrawn (inner-cell len st rs) below = branch len st (kidsDrawn rs below)
 
--- and so where there is a tree
-abbrev pub plain-of : Option (Tree Held) → Option (Tree ℕ)
-plain-of none = none
-plain-of (some t) = some (plain t)
+-- from a place down, with so many records on the path
+abbrev pub drawnFrom : ℕ → Store Held → Place → Drawing ℕ
+drawnFrom zero σ x = nothing
+drawnFrom (suc most) σ x = cellDrawn (σ x) (λ y. drawnFrom most σ y)
 
--- what it draws; with no tree, nothing
-abbrev pub drawing : Option (Tree Held) → Drawing ℕ
-drawing d = drawn (plain-of d)
+-- from the root on: as many inner records as a path may have, and a leaf
+abbrev pub drawingOf : (words keys : List ℕ) → Drawing ℕ
+drawingOf words keys = let f = frame words in drawnFrom (suc (f .form .limit)) (cellOf f words keys) (placeAt (rootWord words))
 
 -- ── inner records in use: those that are not free ──
 -- of a kind, with a number below n

@@ -1,12 +1,12 @@
 -- The numbers given back, a table by class of call, then by call: each row has its condition, and that none earlier applies. The call that gives a tag gives no number.
--- On a sound block search, prefix search, minimum and maximum have two rows each, what the walk meets and what the list has; their numbers are the same.
+-- What the searches and the two ends give on a sound block is also what the list has (`Listed`).
 use Prim.Native.Nat.{ℕ, _≤_, _<_}
 use mathlib.Core.Path.{_≡_}
 use mathlib.Core.Logic.{_≢_}
 use mathlib.Core.List.{List}
 use mathlib.Core.Option.{none, some}
 use mathlib.Core.Bool.{Bool, true, false, _&&_}
-use lib.ListN.{length}
+use lib.ListN.{length, getD}
 use lib.Dec.{eqb}
 use Rattle.frames.specs.Frame.{frameFits, frame}
 use Rattle.frames.specs.Place.{placeAt, inPool, recordAt}
@@ -14,19 +14,18 @@ use Rattle.frames.specs.declared.frame.Caps.{Caps}
 use Rattle.frames.specs.declared.frame.Frame.{Frame}
 use Rattle.records.specs.Words.{usedAs, nextLeaf}
 use Rattle.records.specs.View.{Held, ruleAt}
-use Rattle.art.specs.Tags.{Tag, Listing, exact, begin}
-use Rattle.art.specs.Listings.{find, lookup}
-use Rattle.art.specs.Orders.{first-of, last-of, after}
+use Rattle.art.specs.Tags.{Tag, Listing}
+use Rattle.art.specs.Listings.{lookup}
+use Rattle.art.specs.Orders.{after}
 use Rattle.art.specs.Verdicts.{known, clash, free, judge}
 use Rattle.art.specs.Deletes.{held}
 use Rattle.art.specs.Stores.{Place, leaf-place, inner-place}
-use Rattle.art.specs.Points.{store-of}
 use Rattle.pools.specs.Start.{startFitsIn}
 use Rattle.tree.specs.declared.lookup.Aim.the-variants.{Exact, Begin}
 use Rattle.tree.specs.declared.minmax.Edge.the-variants.{Low, High}
 use Rattle.whole.specs.Marks.{placesIn}
 use Rattle.whole.specs.Sound.{Sound}
-use Rattle.insert.specs.Room.{LeavesFull, Lacking}
+use Rattle.insert.specs.Room.{Lacking}
 use Rattle.insert.specs.Insert.{tooLong}
 use Rattle.demands.specs.Calls.{Query, search, prefix-search, minimum, maximum, next-leaf, leaf-facts, leaf-tag, check, first-at-or-after, insert, delete, Call, start, query, ask, edit, Slices, checks}
 use Rattle.demands.specs.Way.{Gives, Ends}
@@ -60,6 +59,10 @@ pub record Passed (s : Slices) : Type 0 where
 abbrev pub holds : {words keys : List ℕ} → Sound words keys → Listing Held
 holds s = held (s .tree)
 
+-- every leaf of a sound block has a tag
+abbrev pub Full : {words keys : List ℕ} → Sound words keys → Type 0
+Full {words} s = length (holds s) ≡ getD (frame words .caps) 5 0
+
 -- ── a leaf number ──
 -- a leaf of the pool that is not free
 pub record InUse (s : Slices) (n : ℕ) : Type 0 where
@@ -87,13 +90,7 @@ nextNamed s ref = namesLeaf (frame (s .words)) (s .words) (placeAt ref)
 -- ── classes of calls ──
 -- a query that gives a number: all do but the one that gives a tag
 abbrev pub Numbered : Query → Type 0
-Numbered (search t) = Unit {0}
-Numbered (prefix-search t) = Unit {0}
-Numbered minimum = Unit {0}
-Numbered maximum = Unit {0}
-Numbered (next-leaf n) = Unit {0}
-Numbered (leaf-facts n) = Unit {0}
-Numbered (leaf-tag n) = ⊥
+Numbered q = (n : ℕ) → q ≢ leaf-tag n
 
 -- a query that gives a number for a leaf number
 pub data OnLeaf : Query → ℕ → Type 0 where
@@ -112,19 +109,11 @@ pub data Due : Call → Slices → ℕ → Type 0 where
   start-done : {form : ℕ} {c : Caps} {s : Slices} → startFitsIn form c (length (s .words)) (length (s .keys)) ≡ true → Due (start form c) s 0
   -- every query: 6 for the frame
   query-unframed : {q : Query} {s : Slices} → Numbered q → Unframed s → Due (query q) s 6
-  -- the two searches and the two ends: by what the walk meets; on a sound block 1 or 0 by the list
+  -- the two searches and the two ends: by what the walk meets
   search-walked : {t : Tag} {s : Slices} {n : ℕ} → Fitting s → Gives (frame (s .words)) (s .words) (s .keys) t Exact n → Due (query (search t)) s n
-  search-missing : {t : Tag} {s : Slices} (z : Sound (s .words) (s .keys)) → find exact t (holds z) ≡ none → Due (query (search t)) s 1
-  search-found : {t : Tag} {s : Slices} (z : Sound (s .words) (s .keys)) (h : Held) → find exact t (holds z) ≡ some h → Due (query (search t)) s 0
   prefix-walked : {t : Tag} {s : Slices} {n : ℕ} → Fitting s → Gives (frame (s .words)) (s .words) (s .keys) t Begin n → Due (query (prefix-search t)) s n
-  prefix-missing : {t : Tag} {s : Slices} (z : Sound (s .words) (s .keys)) → find begin t (holds z) ≡ none → Due (query (prefix-search t)) s 1
-  prefix-found : {t : Tag} {s : Slices} (z : Sound (s .words) (s .keys)) (h : Held) → find begin t (holds z) ≡ some h → Due (query (prefix-search t)) s 0
   minimum-walked : {s : Slices} {n : ℕ} → Fitting s → Ends (frame (s .words)) (s .words) (s .keys) Low n → Due (query minimum) s n
-  minimum-missing : {s : Slices} (z : Sound (s .words) (s .keys)) → first-of (holds z) ≡ none → Due (query minimum) s 1
-  minimum-found : {s : Slices} (z : Sound (s .words) (s .keys)) (h : Held) → first-of (holds z) ≡ some h → Due (query minimum) s 0
   maximum-walked : {s : Slices} {n : ℕ} → Fitting s → Ends (frame (s .words)) (s .words) (s .keys) High n → Due (query maximum) s n
-  maximum-missing : {s : Slices} (z : Sound (s .words) (s .keys)) → last-of (holds z) ≡ none → Due (query maximum) s 1
-  maximum-found : {s : Slices} (z : Sound (s .words) (s .keys)) (h : Held) → last-of (holds z) ≡ some h → Due (query maximum) s 0
   -- a leaf number: 9 for the number, then 6 for the leaf
   leaf-outside : {q : Query} {n : ℕ} {s : Slices} → OnLeaf q n → Fitting s → inPool (frame (s .words)) (leaf-place n) ≡ false → Due (query q) s 9
   leaf-free : {q : Query} {n : ℕ} {s : Slices} → OnLeaf q n → Fitting s → inPool (frame (s .words)) (leaf-place n) ≡ true
@@ -147,11 +136,11 @@ pub data Due : Call → Slices → ℕ → Type 0 where
   insert-over : {t : Tag} {total : ℕ} {s : Slices} → Allowed t s → (p : Passed s) → judge t (holds (p .sound)) ≡ known → Due (edit (insert t total)) s 0
   insert-clash : {t : Tag} {total : ℕ} {s : Slices} → Allowed t s → (p : Passed s) → judge t (holds (p .sound)) ≡ clash → Due (edit (insert t total)) s 3
   insert-full : {t : Tag} {total : ℕ} {s : Slices} → Allowed t s → (p : Passed s) → judge t (holds (p .sound)) ≡ free
-      → LeavesFull (frame (s .words)) (store-of (p .sound .tree)) → Due (edit (insert t total)) s 4
+      → Full (p .sound) → Due (edit (insert t total)) s 4
   insert-lacking : {t : Tag} {total : ℕ} {s : Slices} → Allowed t s → (p : Passed s) → judge t (holds (p .sound)) ≡ free
-      → ¬ LeavesFull (frame (s .words)) (store-of (p .sound .tree)) → Lacking (frame (s .words)) (p .sound .tree) t → Due (edit (insert t total)) s 5
+      → ¬ Full (p .sound) → Lacking (frame (s .words)) (p .sound .tree) t → Due (edit (insert t total)) s 5
   insert-new : {t : Tag} {total : ℕ} {s : Slices} → Allowed t s → (p : Passed s) → judge t (holds (p .sound)) ≡ free
-      → ¬ LeavesFull (frame (s .words)) (store-of (p .sound .tree)) → ¬ Lacking (frame (s .words)) (p .sound .tree) t → Due (edit (insert t total)) s 0
+      → ¬ Full (p .sound) → ¬ Lacking (frame (s .words)) (p .sound .tree) t → Due (edit (insert t total)) s 0
   -- delete: past the check 1 or 0 by the list
   delete-missing : {t : Tag} {s : Slices} (p : Passed s) → lookup t (holds (p .sound)) ≡ none → Due (edit (delete t)) s 1
   delete-held : {t : Tag} {s : Slices} (p : Passed s) (h : Held) → lookup t (holds (p .sound)) ≡ some h → Due (edit (delete t)) s 0

@@ -10,7 +10,8 @@ use Rattle.reading.specs.Answers.{Bytes}
 use Rattle.reading.specs.Calls.{Reads}
 use Rattle.whole.specs.Sound.{Sound}
 use Rattle.demands.specs.Histories.{Block, Turn, lent, answered, CallBytes, totals, Tally}
-use Rattle.demands.specs.Drawn.{drawing, usedInner}
+use Rattle.demands.specs.Told.{toldBy}
+use Rattle.demands.specs.Drawn.{drawingOf, usedInner}
 use Rattle.demands.specs.Listed.{Suffices, Listed}
 
 -- b holds the tags and totals of l, as many as the accepted calls of n put in and did not take out
@@ -23,9 +24,9 @@ pub record Story (b : Block) (l : Listing ℕ) (n : Tally) : Type 0 where
   -- which is sorted, read by the reading calls and listed by a walk from leaf to leaf
   pub reads : Reads (b .words) (b .keys) (held (sound .tree))
   -- and the answer of any call, made next with scratch enough, is the list's
-  pub listed : (t : Turn) → CallBytes (t .call) → Suffices (t .call) (lent b t) → Listed sound (t .call) (answered b t)
-  -- its tree draws what these tags alone draw
-  pub draws : drawing (sound .tree) ≡ draw l
+  pub listed : (t : Turn) → CallBytes (t .call) → Suffices (t .call) (lent b t) → Listed sound (t .call) (toldBy (answered b t))
+  -- it draws what these tags alone draw
+  pub draws : drawingOf (b .words) (b .keys) ≡ draw l
   -- with as many inner records in use as the drawing has branchings
   pub inner : usedInner (b .words) ≡ branchings (draw l)
   -- the count word and the accepted deletes since start are together the accepted new inserts

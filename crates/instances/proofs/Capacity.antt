@@ -1,28 +1,29 @@
 -- Capacities that suffice: on a block with a record of kind 4 alone, and after calls from a start with capacities for five tags.
-use mathlib.Core.Path.{_≡_, refl}
+use mathlib.Core.Path.{_≡_, refl, ap}
 use mathlib.Core.Logic.{_≢_}
 use mathlib.Core.List.{List, [], _∷_, _++_}
 use mathlib.Core.Option.{some}
 use native.Mathlib.Omega.{arith}
-use lib.ListN.{replicate}
+use lib.ListN.{length, replicate}
 use Rattle.frames.specs.Frame.{frame}
 use Rattle.frames.specs.declared.frame.Caps.{Caps}
-use Rattle.art.specs.Points.{store-of}
 use Rattle.pools.specs.Start.{startOf}
 use Rattle.pools.specs.declared.start.Started.the-variants.{Done}
 use Rattle.reading.specs.Answers.{Bytes}
 use Rattle.whole.specs.Sound.{Sound}
 use Rattle.whole.proofs.Sounds.{whole-sound}
 use Rattle.pointed.proofs.Points.{tag-bytes}
-use Rattle.insert.specs.Room.{LeavesFull, Lacking}
+use Rattle.insert.specs.Room.{Lacking}
 use Rattle.demands.specs.Calls.{edit, Call, start, insert, delete, numberOf, number}
 use Rattle.demands.specs.Histories.{Block, Turn, answered, next, after-all, AllBytes}
+use Rattle.demands.proofs.Leaves.{full-count}
 use Rattle.demands.proofs.Histories.{history}
 use Rattle.capacity.specs.Capacity.{Large, AmpleCaps, AmpleFrame, AmpleStarts, Tight}
 use Rattle.capacity.proofs.Rooms.{never-lacks, tight-never-lacks}
 use Rattle.capacity.proofs.Numbers.{large-never-five}
 use Rattle.capacity.proofs.Histories.{usual-ample, ample-frame, ample-tight, ample-never-five}
 use Rattle.instances.specs.Opened.{opened}
+use Rattle.instances.proofs.Sounds.{holds-is}
 use Rattle.instances.specs.Blocks.{leaf-at, key, no-key, block, lend, A, B, C, D, E}
 
 -- ── a record of kind 4, and two leaves ──
@@ -38,8 +39,9 @@ four-large : Large (frame (four .words))
 unfolding opened
 four-large = omega arith
 
-has-room : ¬ LeavesFull (frame (four .words)) (store-of (four-sound .tree)) → ¬ Lacking (frame (four .words)) (four-sound .tree) B
-has-room = never-lacks four-sound B (tag-bytes B refl) four-large
+has-room : ¬ Lacking (frame (four .words)) (four-sound .tree) B
+unfolding opened
+has-room = never-lacks four-sound B (tag-bytes B refl) four-large (λ full. omega (arith, full-count four-sound full, ap length (holds-is four-sound)))
 
 not-five : number (edit (insert B 8)) (lend four 3) ≢ some 5
 not-five = large-never-five (lend four 3) B 8 (tag-bytes B refl) four-large
@@ -91,5 +93,6 @@ still-enough = ample-frame before 1 five (replicate 11 1) accepted enough calls 
 last-sound : Sound (last .words) (last .keys)
 last-sound = history before 1 five (replicate 11 1) accepted calls bytes .sound
 
-A-has-room : ¬ LeavesFull (frame (last .words)) (store-of (last-sound .tree)) → ¬ Lacking (frame (last .words)) (last-sound .tree) A
-A-has-room = tight-never-lacks last-sound A (tag-bytes A refl) smallest-kinds still-enough
+A-has-room : ¬ Lacking (frame (last .words)) (last-sound .tree) A
+unfolding opened
+A-has-room = tight-never-lacks last-sound A (tag-bytes A refl) smallest-kinds still-enough (λ full. omega (arith, full-count last-sound full, ap length (holds-is last-sound)))

@@ -1,26 +1,24 @@
 -- What the table of numbers asks, on the blocks: no frame, short scratch, no soundness; no free leaf, no record for a branching, or neither.
 use Prim.Native.Nat.{ℕ, zero, suc, _≤_, _<_}
-use mathlib.Core.Path.{_≡_, refl, sym, subst, _∙_}
+use mathlib.Core.Path.{_≡_, refl, sym, ap, subst, _∙_}
 use mathlib.Core.List.{[], _∷_}
 use mathlib.Core.Option.{Option}
 use mathlib.Core.Bool.{true, true≢false}
 use native.Mathlib.Omega.{arith}
-use lib.ListN.{getD}
+use lib.ListN.{length, getD}
 use lib.Dec.{leb, ltb}
 use borrow.Author.Tests.{leb-true, ltb-true}
 use Rattle.lists.proofs.Tests.{both}
 use Rattle.records.specs.View.{Held}
 use Rattle.art.specs.Trees.{Tree}
-use Rattle.art.specs.Stores.{leaf-place, Used}
-use Rattle.art.specs.Points.{store-of}
 use Rattle.frames.specs.Frame.{frame}
 use Rattle.whole.proofs.Sounds.{sound-whole}
-use Rattle.whole.proofs.Samples.{two-words, two-keys, broken-words, two-sound, broken-found}
-use Rattle.insert.specs.Room.{LeavesFull, Lacking}
-use Rattle.demands.specs.Due.{Unframed, Short, Unsound}
+use Rattle.whole.proofs.Samples.{two-keys, broken-words, two-sound, broken-found}
+use Rattle.insert.specs.Room.{Lacking}
+use Rattle.demands.specs.Due.{Unframed, Short, Unsound, Full}
 use Rattle.instances.specs.Opened.{opened}
 use Rattle.instances.specs.Blocks.{nothing, two, broken, lone, room, lend, B, C}
-use Rattle.instances.proofs.Sounds.{lone-sound, room-sound, lone-tree, room-tree}
+use Rattle.instances.proofs.Sounds.{lone-sound, room-sound, two-holds, lone-holds, room-holds, lone-tree, room-tree}
 
 -- ── frame, scratch and soundness ──
 pub none-unframed : Unframed (lend nothing 0)
@@ -36,17 +34,15 @@ unfolding opened
 broken-unsound = record { fits = refl; room = omega arith; not-sound = λ s. true≢false (sym (sound-whole broken-words two-keys s) ∙ broken-found) }
 
 -- ── leaves and records for an insert ──
--- both leaves are in use
-pub two-full : LeavesFull (frame two-words) (store-of (two-sound .tree))
+-- two tags, and two leaves
+pub two-full : Full two-sound
 unfolding opened
-two-full zero h = subst Used (two-sound .shown (leaf-place 0)) tt
-two-full (suc zero) h = subst Used (two-sound .shown (leaf-place 1)) tt
-two-full (suc (suc n)) h = let l : suc (suc n) < 2 = ltb-true _ _ h in absurd (omega arith)
+two-full = ap length two-holds
 
--- leaf 1 is not
-pub lone-not-full : ¬ LeavesFull (frame (lone .words)) (store-of (lone-sound .tree))
+-- one tag, and two leaves
+pub lone-not-full : ¬ Full lone-sound
 unfolding opened
-lone-not-full full = subst Used (sym (lone-sound .shown (leaf-place 1))) (full 1 refl)
+lone-not-full full = omega (arith, full, ap length lone-holds)
 
 -- B would need a branching, and there is no record for one
 pub lone-lacks : Lacking (frame (lone .words)) (lone-sound .tree) B
@@ -64,10 +60,10 @@ lone-lacks = subst (λ (d : Option (Tree Held)). Lacking (frame (lone .words)) d
     kinds : (k n : ℕ) → (leb k 4 ≡ true) × (ltb n (getD (frame (lone .words) .caps) k 0) ≡ true) → ⊥
     kinds k n h = none-in k n (leb-true k 4 (h .0)) (ltb-true n (getD (frame (lone .words) .caps) k 0) (h .1))
 
--- leaf 2 is free, and the record of kind 1 has two children of four
-pub room-not-full : ¬ LeavesFull (frame (room .words)) (store-of (room-sound .tree))
+-- two tags and three leaves, and the record of kind 1 has two children of four
+pub room-not-full : ¬ Full room-sound
 unfolding opened
-room-not-full full = subst Used (sym (room-sound .shown (leaf-place 2))) (full 2 refl)
+room-not-full full = omega (arith, full, ap length room-holds)
 
 pub room-not-lacks : ¬ Lacking (frame (room .words)) (room-sound .tree) C
 unfolding opened

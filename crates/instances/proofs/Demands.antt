@@ -17,7 +17,7 @@ use Rattle.art.specs.Drawings.{one, branch, kid, done, draw}
 use Rattle.art.specs.Deletes.{held}
 use Rattle.tree.specs.Walk.{searchOf}
 use Rattle.tree.specs.declared.answer.Found.the-variants as found
-use Rattle.reading.specs.Answers.{Bytes, answerOf}
+use Rattle.reading.specs.Answers.{Bytes}
 use Rattle.reading.specs.Calls.{Reads}
 use Rattle.whole.specs.Sound.{Sound}
 use Rattle.whole.proofs.Samples.{two-words, two-keys, two-sound}
@@ -25,65 +25,78 @@ use Rattle.range.specs.Range.{afterOf, afterIs}
 use Rattle.range.specs.declared.After.the-variants as after-variants
 use Rattle.pointed.proofs.Points.{tag-bytes}
 use Rattle.insert.specs.Insert.{tooLong}
-use Rattle.insert.specs.declared.answer.Inserted.{Inserted}
 use Rattle.insert.specs.declared.answer.Inserted.the-variants as inserted
-use Rattle.delete.specs.Meets as delete-meets
-use Rattle.delete.specs.declared.answer.Deleted.the-variants as deleted
 use Rattle.demands.specs.Calls as calls
-use Rattle.demands.specs.Calls.{insert, delete, Outcome, outcome, Promise, run}
+use Rattle.demands.specs.Calls.{Call, query, ask, edit, search, leaf-tag, check, insert, delete, Outcome, outcome, Promise, run}
+use Rattle.demands.specs.Told.{Told, only, withTotal, withLeaf, withTag, toldBy}
 use Rattle.demands.specs.Histories.{Block, Turn, answered, next, after-all, puts, totals, amended}
-use Rattle.demands.specs.Drawn.{drawing}
+use Rattle.demands.specs.Drawn.{drawingOf}
 use Rattle.demands.specs.Accepts.{turn}
-use Rattle.demands.specs.Listed.{InsertsListed}
+use Rattle.demands.specs.Due.{Due}
+use Rattle.demands.specs.Programs.{seen}
+use Rattle.demands.specs.Demands.{Demands}
+use Rattle.demands.specs.Listed.{finds, takes, InsertsListed}
 use Rattle.demands.proofs.Reading.{sound-reads}
+use Rattle.demands.proofs.Drawings.{drawing-held}
 use Rattle.demands.proofs.Listed.{sound-listed}
 use Rattle.demands.proofs.Outcomes.{one-outcome, promised}
-use Rattle.demands.specs.Told as tells
-use Rattle.demands.proofs.Refusals.{refused-same, scratch-left}
-use Rattle.demands.proofs.Told.{refused-told}
 use Rattle.demands.specs.Frames.{FrameKept}
-use Rattle.demands.proofs.Frames.{frame-kept, frames-kept, kept-frame, kept-fits}
+use Rattle.demands.proofs.Frames.{frames-kept, kept-frame, kept-fits}
 use Rattle.demands.proofs.Numbers.{after-meets}
 use Rattle.demands.proofs.Steps.{step-sound}
 use Rattle.demands.proofs.KeyBytes.{step-bytes}
-use Rattle.demands.proofs.Histories.{drawing-is}
-use Rattle.demands.proofs.Corollaries.{one-tree, either-order, restored}
+use Rattle.demands.proofs.Corollaries.{one-tree}
+use Rattle.demands.proofs.Demands.{demands, kept-demands}
 use Rattle.instances.specs.Opened.{opened}
-use Rattle.instances.specs.Blocks.{bare, spare, two, room, three, lend, A, B, C, AB, entry, pair}
-use Rattle.instances.proofs.Sounds.{bare-sound, spare-sound, room-sound, swapped-sound, two-holds, spare-holds, room-holds, two-places, two-passed, two-tree}
+use Rattle.instances.specs.Blocks.{bare, spare, two, swapped, room, three, lend, A, B, C, AB, holding, entry, pair}
+use Rattle.instances.proofs.Sounds.{bare-sound, spare-sound, room-sound, two-holds, spare-holds, room-holds, two-places, two-passed, two-tree}
+use Rattle.instances.proofs.Conditions.{two-full}
 
 -- ── one outcome ──
 abbrev put : Outcome
 put = outcome (calls.inserted inserted.New) (three .words) (three .keys) (replicate 5 0)
 
 -- putting C in leaves these words, key bytes and scratch bytes
-put-promised : Promise (calls.edit (calls.insert C 9)) (lend room 5) put
+put-promised : Promise (edit (insert C 9)) (lend room 5) put
 unfolding opened
-put-promised = promised (calls.edit (calls.insert C 9)) (lend room 5)
+put-promised = promised (edit (insert C 9)) (lend room 5)
 
 -- and whatever else the promise allows is the same
-put-only : (o : Outcome) → Promise (calls.edit (calls.insert C 9)) (lend room 5) o → o ≡ put
-put-only o p = one-outcome (calls.edit (calls.insert C 9)) (lend room 5) o put p put-promised
+put-only : (o : Outcome) → Promise (edit (insert C 9)) (lend room 5) o → o ≡ put
+put-only o p = one-outcome (edit (insert C 9)) (lend room 5) o put p put-promised
 
--- ── a refused call changes no byte ──
--- both leaves are used: 4
-refused : (run (calls.edit (calls.insert C 9)) (lend two 3) .slices .words ≡ two-words) × (run (calls.edit (calls.insert C 9)) (lend two 3) .slices .keys ≡ two-keys)
-unfolding opened
-refused = refused-same (calls.edit (calls.insert C 9)) (lend two 3) 4 refl (λ e. omega arith)
+-- so a program that keeps the contracts meets the demands: the port is one
+kept : Demands (seen run)
+kept = kept-demands run promised
 
--- and tells nothing but the 4
-refused-bare : tells.toldBy (run (calls.edit (calls.insert C 9)) (lend two 3) .answer) ≡ tells.only 4
+-- ── a refused call: both leaves have tags, so C gets 4 ──
+refused-due : Due (edit (insert C 9)) (lend two 3) 4
 unfolding opened
-refused-bare = refused-told (calls.edit (calls.insert C 9)) (lend two 3) 4 refl (λ e. omega arith)
+refused-due = demands .numbers (edit (insert C 9)) (tag-bytes C refl) (lend two 3) .1 (λ m e. let z : _≡_ {A = ℕ} 0 1 = cc in omega arith)
+
+-- it tells nothing but the 4
+refused-bare : toldBy (run (edit (insert C 9)) (lend two 3) .answer) ≡ only 4
+unfolding opened
+refused-bare = demands .bare (edit (insert C 9)) (lend two 3) (λ e. omega arith)
+
+-- and changes no byte
+refused-unchanged : (run (edit (insert C 9)) (lend two 3) .slices .words ≡ two-words) × (run (edit (insert C 9)) (lend two 3) .slices .keys ≡ two-keys)
+unfolding opened
+refused-unchanged = demands .unchanged (edit (insert C 9)) (lend two 3) (λ e. omega arith)
 
 -- ── scratch: five bytes for three records, and two ──
-cleared : run (calls.ask calls.check) (lend two 5) .slices .scratch ≡ 0 ∷ 0 ∷ 0 ∷ 1 ∷ 1 ∷ []
+cleared : run (ask check) (lend two 5) .slices .scratch ≡ 0 ∷ 0 ∷ 0 ∷ 1 ∷ 1 ∷ []
 unfolding opened
-cleared = scratch-left (calls.ask calls.check) (lend two 5)
+cleared = demands .scratched (ask check) (lend two 5)
 
-untouched : run (calls.ask calls.check) (lend two 2) .slices .scratch ≡ 1 ∷ 1 ∷ []
+untouched : run (ask check) (lend two 2) .slices .scratch ≡ 1 ∷ 1 ∷ []
 unfolding opened
-untouched = scratch-left (calls.ask calls.check) (lend two 2)
+untouched = demands .scratched (ask check) (lend two 2)
+
+-- ── the tag of a leaf: the byte of leaf 1, from key byte 64 on ──
+B-read : toldBy (run (query (leaf-tag 1)) (lend two 0) .answer) ≡ withTag B (only 0)
+unfolding opened
+B-read = demands .tagged 1 (lend two 0)
 
 -- ── the frame ──
 room-bytes : Bytes (room .keys)
@@ -91,11 +104,11 @@ room-bytes = tag-bytes (room .keys) refl
 
 put-framed : FrameKept (room .words) (room .keys) (three .words) (three .keys)
 unfolding opened
-put-framed = frame-kept (calls.edit (calls.insert C 9)) tt (tag-bytes C refl) (lend room 5) room-bytes
+put-framed = demands .framed (edit (insert C 9)) tt (tag-bytes C refl) (lend room 5) room-bytes
 
 -- C in and out again, with a search between
 abbrev there-and-back : List Turn
-there-and-back = turn (insert C 9) (replicate 5 1) ∷ record { call = calls.query (calls.search C); scratch = [] } ∷ turn (delete C) (replicate 5 1) ∷ []
+there-and-back = turn (insert C 9) (replicate 5 1) ∷ record { call = query (search C); scratch = [] } ∷ turn (delete C) (replicate 5 1) ∷ []
 
 back-framed : FrameKept (room .words) (room .keys) (after-all room there-and-back .words) (after-all room there-and-back .keys)
 back-framed = let c : Bytes C = tag-bytes C refl in frames-kept room room-bytes there-and-back (tt, (tt, (tt, tt))) (c, (c, (c, tt)))
@@ -116,32 +129,37 @@ B-found : searchOf two-words two-keys B ≡ found.Leaf 1 8
 unfolding opened
 B-found = two-reads .search B (tag-bytes B refl)
 
--- and so answers the call, made on the block
-abbrev on-two : calls.Call → calls.Answer
-on-two c = answered two (record { call = c; scratch = replicate 3 1 })
+-- and so tells the call, made on the block
+abbrev on-two : Call → Told
+on-two c = toldBy (answered two (record { call = c; scratch = replicate 3 1 }))
 
-B-listed : on-two (calls.query (calls.search B)) ≡ calls.found (found.Leaf 1 8)
+B-listed : on-two (query (search B)) ≡ withLeaf 1 (withTotal 8 (only 0))
 unfolding opened
-B-listed = sound-listed two two-sound (record { call = calls.query (calls.search B); scratch = replicate 3 1 }) (tag-bytes B refl) tt ∙ ap (λ (l : Listing Held). calls.found (answerOf (find exact B l))) two-holds
+B-listed = demands .on-sound (lend two 3) two-sound (query (search B)) (tag-bytes B refl) tt ∙ ap (λ (l : Listing Held). finds (find exact B l)) two-holds
 
--- A with another total gives the old one, AB clashes, and A goes out with its total
-inserted-listed : (t : Tag) → Bytes t → tooLong two-words two-keys t ≡ false → (r : Inserted) × (on-two (calls.edit (calls.insert t 9)) ≡ calls.inserted r) × InsertsListed two-sound t r
+C-unlisted : on-two (query (search C)) ≡ only 1
 unfolding opened
-inserted-listed t bytes short = sound-listed two two-sound (record { call = calls.edit (calls.insert t 9); scratch = replicate 3 1 }) bytes two-places .1 short
+C-unlisted = demands .on-sound (lend two 3) two-sound (query (search C)) (tag-bytes C refl) tt ∙ ap (λ (l : Listing Held). finds (find exact C l)) two-holds
 
-A-over : on-two (calls.edit (calls.insert A 9)) ≡ calls.inserted (inserted.Over 7)
-unfolding opened
-A-over = let z = inserted-listed A (tag-bytes A refl) refl in z .1 ∙ ap calls.inserted (z .2 .over (record { number = 0; total = 7 }) (ap (lookup A) two-holds))
+-- A with another total gives the old one, AB clashes, C has no leaf, and A goes out with its total
+inserted-listed : (t : Tag) → Bytes t → tooLong two-words two-keys t ≡ false → InsertsListed two-sound t (on-two (edit (insert t 9)))
+inserted-listed t bytes short = sound-listed two two-sound (record { call = edit (insert t 9); scratch = replicate 3 1 }) bytes two-places .1 short
 
-AB-clashes : on-two (calls.edit (calls.insert AB 9)) ≡ calls.inserted inserted.Clash
+A-over : on-two (edit (insert A 9)) ≡ withTotal 7 (only 0)
 unfolding opened
-AB-clashes = let z = inserted-listed AB (tag-bytes AB refl) refl in z .1 ∙ ap calls.inserted (z .2 .clashes (ap (judge AB) two-holds))
+A-over = inserted-listed A (tag-bytes A refl) refl .over (holding 0 7) (ap (lookup A) two-holds)
 
-A-gone : on-two (calls.edit (calls.delete A)) ≡ calls.deleted (deleted.Gone 7)
+AB-clashes : on-two (edit (insert AB 9)) ≡ only 3
 unfolding opened
-A-gone =
-    sound-listed two two-sound (record { call = calls.edit (calls.delete A); scratch = replicate 3 1 }) (tag-bytes A refl) two-places
-    ∙ ap (λ (l : Listing Held). calls.deleted (delete-meets.answerOf (lookup A l))) two-holds
+AB-clashes = inserted-listed AB (tag-bytes AB refl) refl .clashes (ap (judge AB) two-holds)
+
+C-leafless : on-two (edit (insert C 9)) ≡ only 4
+unfolding opened
+C-leafless = inserted-listed C (tag-bytes C refl) refl .full (ap (judge C) two-holds) two-full
+
+A-gone : on-two (edit (delete A)) ≡ withTotal 7 (only 0)
+unfolding opened
+A-gone = demands .on-sound (lend two 3) two-sound (edit (delete A)) (tag-bytes A refl) two-places ∙ ap (λ (l : Listing Held). takes (lookup A l)) two-holds
 
 -- the first at or after AB is B
 AB-after : afterOf two-words two-keys (replicate 3 1) AB .result ≡ after-variants.Leaf 1 8
@@ -162,30 +180,30 @@ put-bytes = step-bytes room room-bytes (turn (insert C 9) (replicate 5 1)) (tag-
 
 -- ── in either order ──
 -- A and B put into a bare block, and B and A: other words, the same drawing
-orders : drawing (two-sound .tree) ≡ drawing (swapped-sound .tree)
+orders : drawingOf two-words two-keys ≡ drawingOf (swapped .words) (swapped .keys)
 unfolding opened
 orders =
     let s : List ℕ = replicate 3 1 in
-    either-order bare bare-sound (tag-bytes (bare .keys) refl) (insert A 7) (insert B 8) (tag-bytes A refl) (tag-bytes B refl) A≢B s s s s refl refl refl refl two-sound swapped-sound
+    demands .either-order bare bare-sound (tag-bytes (bare .keys) refl) (insert A 7) (insert B 8) (tag-bytes A refl) (tag-bytes B refl) A≢B s s s s refl refl refl refl .2
   where
     A≢B : A ≢ B
     A≢B e = let z : _≡_ {A = ℕ} 65 66 = cc in omega arith
 
 -- which is a fork with no run, A and B below it
-orders-draw : drawing (two-sound .tree) ≡ branch 0 [] (kid 65 (one A 7) (kid 66 (one B 8) done))
+orders-draw : drawingOf two-words two-keys ≡ branch 0 [] (kid 65 (one A 7) (kid 66 (one B 8) done))
 unfolding opened
-orders-draw = drawing-is (two-sound .tree) (two-sound .good) ∙ ap (λ (l : Listing Held). draw (totals l)) two-holds
+orders-draw = drawing-held two-sound ∙ ap (λ (l : Listing Held). draw (totals l)) two-holds
 
 -- ── undone ──
 abbrev undone : Block
 undone = next (next spare (turn (insert B 8) (replicate 3 1))) (turn (delete B) (replicate 3 1))
 
 -- B put in beside A and taken out: A alone is drawn
-undone-draws : (s : Sound (undone .words) (undone .keys)) → drawing (s .tree) ≡ one A 7
+undone-draws : drawingOf (undone .words) (undone .keys) ≡ one A 7
 unfolding opened
-undone-draws s =
-    restored spare spare-sound (tag-bytes (spare .keys) refl) B 8 (tag-bytes B refl) (ap (lookup B) spare-holds) (replicate 3 1) (replicate 3 1) refl refl s
-    ∙ drawing-is (spare-sound .tree) (spare-sound .good)
+undone-draws =
+    demands .restored spare spare-sound (tag-bytes (spare .keys) refl) B 8 (tag-bytes B refl) (ap (lookup B) spare-holds) (replicate 3 1) (replicate 3 1) refl refl .1
+    ∙ drawing-held spare-sound
     ∙ ap (λ (l : Listing Held). draw (totals l)) spare-holds
 
 -- ── what a sound block holds is fixed ──

@@ -43,6 +43,7 @@ use Rattle.insert.proofs.Sounds.{insert-sound, insert-grown}
 use Rattle.insert.proofs.Overs.{over-sound, over-altered}
 use Rattle.insert.proofs.Refusals.{plan-answers, only-over, only-clash, only-full, only-lacking, only-new}
 use Rattle.insert.proofs.Inserts.{insert-meets}
+use Rattle.demands.proofs.Leaves.{full-count, count-full}
 use Rattle.instances.specs.Opened.{opened}
 use Rattle.instances.specs.Blocks.{bare, spare, two, lone, room, three, full, wide, long, parted, A, B, C, D, E, AB, J1, J2, AX, holding, entry, pair, quadruple, long-tags, Holds, gap}
 use Rattle.instances.proofs.Sounds.{bare-sound, spare-sound, lone-sound, room-sound, full-sound, long-sound, bare-holds, spare-holds, two-holds, lone-holds, room-holds, full-holds, long-holds, bare-tree, room-tree, full-tree, long-tree}
@@ -225,17 +226,17 @@ two-clash = clash-due two-sound AB (tag-bytes AB refl) (ap (judge AB) two-holds)
 -- C is free, and no leaf is
 two-no-leaf : planOf (frame two-words) two-words two-keys C ≡ NoLeaf
 unfolding opened
-two-no-leaf = full-due two-sound C (tag-bytes C refl) (ap (judge C) two-holds) two-full
+two-no-leaf = full-due two-sound C (tag-bytes C refl) (ap (judge C) two-holds) (count-full two-sound two-full)
 
 -- B needs a branching, and there is no record
 lone-no-record : planOf (frame (lone .words)) (lone .words) (lone .keys) B ≡ NoRecord
 unfolding opened
-lone-no-record = lacking-due lone-sound B (tag-bytes B refl) (ap (judge B) lone-holds) lone-not-full lone-lacks
+lone-no-record = lacking-due lone-sound B (tag-bytes B refl) (ap (judge B) lone-holds) (λ full. lone-not-full (full-count lone-sound full)) lone-lacks
 
 -- C has a leaf, and a record with room
 room-new : (site : Site) × (n : ℕ) × (g : Gap) × (planOf (frame (room .words)) (room .words) (room .keys) C ≡ New site n g)
 unfolding opened
-room-new = new-due room-sound C (tag-bytes C refl) (ap (judge C) room-holds) room-not-full room-not-lacks
+room-new = new-due room-sound C (tag-bytes C refl) (ap (judge C) room-holds) (λ full. room-not-full (full-count room-sound full)) room-not-lacks
 
 -- ── the whole call ──
 room-meets : Inserts room-sound C 9 (out inserted.New (three .words) (three .keys) (replicate 5 0))

@@ -7,6 +7,8 @@ mod Rows
 mod Ways
 mod Demands
 mod Histories
+mod Uses
+mod Cheats
 mod Reading
 mod Whole
 mod States

@@ -2,16 +2,15 @@
 use mathlib.Core.Path.{refl, ap}
 use mathlib.Core.List.{List, [], _∷_}
 use lib.ListN.{replicate}
-use Rattle.art.specs.Tags.{exact}
-use Rattle.art.specs.Listings.{find}
+use Rattle.art.specs.Listings.{lookup}
 use Rattle.art.specs.Verdicts.{judge}
-use Rattle.whole.proofs.Samples.{two-sound}
 use Rattle.pointed.proofs.Points.{tag-bytes}
-use Rattle.demands.specs.Calls.{query, ask, edit, start, search, leaf-facts, check, insert}
+use Rattle.demands.specs.Calls.{query, ask, edit, start, minimum, leaf-facts, check, insert, delete}
 use Rattle.demands.specs.Due as due
+use Rattle.demands.specs.Way as way
 use Rattle.demands.proofs.Numbers.{due-number, number-due}
 use Rattle.instances.specs.Opened.{opened}
-use Rattle.instances.specs.Blocks.{two, broken, lone, caps, lend, A, B, C, AB, holding}
+use Rattle.instances.specs.Blocks.{bare, two, broken, lone, caps, lend, A, B, C, AB, holding}
 use Rattle.instances.specs.Lines.{Line, line, Dues, Given, Byted, _then_}
 use Rattle.instances.proofs.Sounds.{two-holds, lone-holds, two-passed, lone-passed}
 use Rattle.instances.proofs.Conditions.{two-short, broken-unsound, two-full, lone-not-full, lone-lacks}
@@ -28,8 +27,8 @@ given-dues (l ∷ ls) b g = (number-due (l .call) (l .lent) (l .number) (b .0) (
 -- ── a line for each number ──
 abbrev table : List Line
 table =
-    line (query (search A)) (lend two 0) 0
-    ∷ line (query (search C)) (lend two 0) 1
+    line (edit (delete A)) (lend two 3) 0
+    ∷ line (query minimum) (lend bare 0) 1
     ∷ line (edit (insert (replicate 65 65) 1)) (lend two 3) 2
     ∷ line (edit (insert AB 1)) (lend two 3) 3
     ∷ line (edit (insert C 1)) (lend two 3) 4
@@ -41,7 +40,7 @@ table =
     ∷ []
 
 byted : Byted table
-byted = tag-bytes A refl then tag-bytes C refl then tag-bytes (replicate 65 65) refl then tag-bytes AB refl then tag-bytes C refl then tag-bytes B refl then tt then tt then tt then tt then tt
+byted = tag-bytes A refl then tt then tag-bytes (replicate 65 65) refl then tag-bytes AB refl then tag-bytes C refl then tag-bytes B refl then tt then tt then tt then tt then tt
 
 -- ── the numbers by computing, and so the rows ──
 computed : Given table
@@ -55,8 +54,8 @@ by-number = given-dues table byted computed
 dues : Dues table
 unfolding opened
 dues =
-    due.search-found two-sound (holding 0 7) (ap (find exact A) two-holds)
-    then due.search-missing two-sound (ap (find exact C) two-holds)
+    due.delete-held two-passed (holding 0 7) (ap (lookup A) two-holds)
+    then due.minimum-walked refl (way.rootless refl)
     then due.insert-long {t = replicate 65 65} refl
     then due.insert-clash {t = AB} refl two-passed (ap (judge AB) two-holds)
     then due.insert-full {t = C} refl two-passed (ap (judge C) two-holds) two-full

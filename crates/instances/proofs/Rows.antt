@@ -1,26 +1,26 @@
 -- Every row of the table `Due` is met by a call on a small block, so that none of its conditions is idle; and the call gives the row's number. The rows for what a walk meets are in `Ways`.
-use mathlib.Core.Path.{refl, ap}
+use Prim.Native.Nat.{ℕ}
+use mathlib.Core.Path.{_≡_, refl, sym, ap, _∙_}
 use mathlib.Core.List.{List, [], _∷_}
+use mathlib.Core.Option.{Option, none, some}
 use native.Mathlib.Omega.{arith}
 use lib.ListN.{replicate}
-use Rattle.art.specs.Tags.{exact, begin}
-use Rattle.art.specs.Listings.{find, lookup}
-use Rattle.art.specs.Orders.{first-of, last-of, after}
+use Rattle.art.specs.Listings.{lookup}
+use Rattle.art.specs.Orders.{after}
 use Rattle.art.specs.Verdicts.{judge}
-use Rattle.whole.proofs.Samples.{two-sound}
 use Rattle.pointed.proofs.Points.{tag-bytes}
 use Rattle.reading.specs.Answers.{Bytes}
-use Rattle.demands.specs.Calls.{query, ask, edit, start, search, prefix-search, minimum, maximum, next-leaf, leaf-facts, check, first-at-or-after, insert, delete}
+use Rattle.demands.specs.Calls.{Query, number, query, ask, edit, start, search, prefix-search, minimum, maximum, next-leaf, leaf-facts, check, first-at-or-after, insert, delete}
 use Rattle.demands.specs.Due as due
-use Rattle.demands.specs.Due.{InUse}
+use Rattle.demands.specs.Due.{InUse, Numbered}
 use Rattle.instances.specs.Opened.{opened}
-use Rattle.instances.specs.Blocks.{nothing, bare, spare, two, broken, overlong, astray, lone, room, caps, lend, A, B, C, AB, holding}
+use Rattle.instances.specs.Blocks.{nothing, spare, two, broken, overlong, astray, lone, room, caps, lend, A, B, C, AB, holding}
 use Rattle.instances.specs.Lines.{Line, line, Dues, Given, _then_}
-use Rattle.instances.proofs.Sounds.{bare-sound, bare-holds, two-holds, lone-holds, room-holds, two-passed, lone-passed, room-passed}
+use Rattle.instances.proofs.Sounds.{two-holds, lone-holds, room-holds, two-passed, lone-passed, room-passed}
 use Rattle.instances.proofs.Conditions.{none-unframed, two-short, broken-unsound, two-full, lone-not-full, lone-lacks, room-not-full, room-not-lacks}
 use Rattle.instances.proofs.Numbers.{dues-given}
 
--- ── start, and the four searches ──
+-- ── start ──
 abbrev starts : List Line
 starts = line (start 1 (caps 3)) (lend two 0) 8 ∷ line (start 3 (caps 2)) (lend two 0) 8 ∷ line (start 1 (caps 2)) (lend two 0) 0 ∷ []
 
@@ -28,40 +28,36 @@ starts-due : Dues starts
 unfolding opened
 starts-due = due.start-refused refl then due.start-refused refl then due.start-done refl then tt
 
-abbrev searches : List Line
-searches =
+-- ── the queries, where no frame fits ──
+-- one with a number there gives no tag
+numbered : (q : Query) → number (query q) (lend nothing 0) ≡ some 6 → Numbered q
+numbered q e n z =
+    let none-is : _≡_ {A = Option ℕ} none (some 6) = sym (ap (λ (r : Query). number (query r) (lend nothing 0)) z) ∙ e in
+    let y : _≡_ {A = ℕ} 0 1 = cc in
+    omega arith
+
+abbrev frameless : List Line
+frameless =
     line (query (search A)) (lend nothing 0) 6
-    ∷ line (query (search C)) (lend two 0) 1
-    ∷ line (query (search A)) (lend two 0) 0
     ∷ line (query (prefix-search AB)) (lend nothing 0) 6
-    ∷ line (query (prefix-search C)) (lend two 0) 1
-    ∷ line (query (prefix-search AB)) (lend two 0) 0
     ∷ line (query minimum) (lend nothing 0) 6
-    ∷ line (query minimum) (lend bare 0) 1
-    ∷ line (query minimum) (lend two 0) 0
     ∷ line (query maximum) (lend nothing 0) 6
-    ∷ line (query maximum) (lend bare 0) 1
-    ∷ line (query maximum) (lend two 0) 0
+    ∷ line (query (next-leaf 0)) (lend nothing 0) 6
+    ∷ line (query (leaf-facts 0)) (lend nothing 0) 6
     ∷ []
 
-searches-due : Dues searches
+frameless-due : Dues frameless
 unfolding opened
-searches-due =
-    due.query-unframed tt none-unframed
-    then due.search-missing two-sound (ap (find exact C) two-holds)
-    then due.search-found two-sound (holding 0 7) (ap (find exact A) two-holds)
-    then due.query-unframed tt none-unframed
-    then due.prefix-missing two-sound (ap (find begin C) two-holds)
-    then due.prefix-found two-sound (holding 0 7) (ap (find begin AB) two-holds)
-    then due.query-unframed tt none-unframed
-    then due.minimum-missing bare-sound (ap first-of bare-holds)
-    then due.minimum-found two-sound (holding 0 7) (ap first-of two-holds)
-    then due.query-unframed tt none-unframed
-    then due.maximum-missing bare-sound (ap last-of bare-holds)
-    then due.maximum-found two-sound (holding 1 8) (ap last-of two-holds)
+frameless-due =
+    due.query-unframed (numbered (search A) refl) none-unframed
+    then due.query-unframed (numbered (prefix-search AB) refl) none-unframed
+    then due.query-unframed (numbered minimum refl) none-unframed
+    then due.query-unframed (numbered maximum refl) none-unframed
+    then due.query-unframed (numbered (next-leaf 0) refl) none-unframed
+    then due.query-unframed (numbered (leaf-facts 0) refl) none-unframed
     then tt
 
--- ── a leaf number: of no frame, of no pool, free, with a broken rule, with a reference that names no leaf, the last, and the first ──
+-- ── a leaf number: of no pool, free, with a broken rule, with a reference that names no leaf, the last, and the first ──
 first-used : InUse (lend two 0) 0
 unfolding opened
 first-used = record { fits = refl; pool = refl; used = λ e. omega arith }
@@ -80,14 +76,12 @@ astray-used = record { fits = refl; pool = refl; used = λ e. omega arith }
 
 abbrev leaves : List Line
 leaves =
-    line (query (next-leaf 0)) (lend nothing 0) 6
-    ∷ line (query (next-leaf 2)) (lend two 0) 9
+    line (query (next-leaf 2)) (lend two 0) 9
     ∷ line (query (next-leaf 1)) (lend spare 0) 9
     ∷ line (query (next-leaf 0)) (lend overlong 0) 6
     ∷ line (query (next-leaf 0)) (lend astray 0) 6
     ∷ line (query (next-leaf 1)) (lend two 0) 1
     ∷ line (query (next-leaf 0)) (lend two 0) 0
-    ∷ line (query (leaf-facts 0)) (lend nothing 0) 6
     ∷ line (query (leaf-facts 2)) (lend two 0) 9
     ∷ line (query (leaf-facts 1)) (lend spare 0) 9
     ∷ line (query (leaf-facts 0)) (lend overlong 0) 6
@@ -97,14 +91,12 @@ leaves =
 leaves-due : Dues leaves
 unfolding opened
 leaves-due =
-    due.query-unframed tt none-unframed
-    then due.leaf-outside (due.of-next _) refl refl
+    due.leaf-outside (due.of-next _) refl refl
     then due.leaf-free (due.of-next _) refl refl refl
     then due.leaf-broken (due.of-next _) overlong-used refl
     then due.next-unnamed astray-used refl (λ e. omega arith) refl
     then due.next-end last-used refl refl
     then due.next-done first-used refl (λ e. omega arith) refl
-    then due.query-unframed tt none-unframed
     then due.leaf-outside (due.of-facts _) refl refl
     then due.leaf-free (due.of-facts _) refl refl refl
     then due.leaf-broken (due.of-facts _) overlong-used refl
@@ -192,11 +184,11 @@ ab = tag-bytes AB refl
 starts-given : Given starts
 starts-given = dues-given starts (tt then tt then tt then tt) starts-due
 
-searches-given : Given searches
-searches-given = dues-given searches (a then c then a then ab then c then ab then tt then tt then tt then tt then tt then tt then tt) searches-due
+frameless-given : Given frameless
+frameless-given = dues-given frameless (a then ab then tt then tt then tt then tt then tt) frameless-due
 
 leaves-given : Given leaves
-leaves-given = dues-given leaves (tt then tt then tt then tt then tt then tt then tt then tt then tt then tt then tt then tt then tt) leaves-due
+leaves-given = dues-given leaves (tt then tt then tt then tt then tt then tt then tt then tt then tt then tt then tt) leaves-due
 
 scratched-given : Given scratched
 scratched-given = dues-given scratched (tt then tt then tt then tt then a then a then a then c then ab then a then a then a then c then a then tt) scratched-due

@@ -1,0 +1,210 @@
+-- Programs that cheat, and for each the field of the demands that it breaks: one call or a few refute it, by computing.
+use Prim.Native.Nat.{ℕ, zero, suc, _+_, _-_}
+use mathlib.Core.Path.{_≡_, refl, sym, ap, _∙_}
+use mathlib.Core.List.{List, [], _∷_}
+use native.Mathlib.Omega.{arith}
+use lib.ListN.{getD, length, replicate, set}
+use Rattle.records.specs.View.{Held}
+use Rattle.art.specs.Tags.{Listing, exact}
+use Rattle.art.specs.Listings.{find}
+use Rattle.art.specs.Drawings as drawn
+use Rattle.art.specs.Drawings.{Drawing}
+use Rattle.art.specs.Facts.{branchings}
+use Rattle.art.specs.Deletes.{held}
+use Rattle.reading.specs.Answers.{Bytes}
+use Rattle.whole.specs.Sound.{Sound}
+use Rattle.whole.proofs.Samples.{two-sound}
+use Rattle.pointed.proofs.Points.{tag-bytes}
+use Rattle.demands.specs.Calls as calls
+use Rattle.demands.specs.Calls.{Query, query, search, minimum, Edit, edit, insert, delete, Slices, run}
+use Rattle.demands.specs.Told.{Told, only, withLeaf}
+use Rattle.demands.specs.Histories.{Block, Turn, totals}
+use Rattle.demands.specs.Accepts.{turn}
+use Rattle.demands.specs.Due as due
+use Rattle.demands.specs.Due.{holds}
+use Rattle.demands.specs.Listed.{finds}
+use Rattle.demands.specs.Ledger.{Ledger}
+use Rattle.demands.specs.Programs.{Seen, Program, seen}
+use Rattle.demands.specs.Demands.{Numbers, Bare, Unchanged, OnSound, Holds, AsList, Draws, Counts}
+use Rattle.demands.proofs.Corollaries.{one-tree}
+use Rattle.instances.specs.Opened.{opened}
+use Rattle.instances.specs.Blocks.{nothing, bare, two, caps, lend, A, B, C}
+use Rattle.instances.proofs.Sounds.{bare-sound, spare-sound, bare-holds, spare-holds, two-holds}
+
+-- ── the programs ──
+abbrev port : Program
+port = seen run
+
+-- this answer, and the slices as they were lent
+abbrev claimed : Seen → Slices → Seen
+claimed o s = record { told = o .told; slices = s }
+
+-- every call is refused
+abbrev refuser : Program
+refuser c s = record { told = only 6; slices = s }
+
+-- every call answers, and none changes anything
+abbrev identity : Program
+identity c s = claimed (port c s) s
+
+-- a query as the port answers it, and an outcome as it is
+abbrev replied : Query → Slices → Seen
+replied q s = port (query q) s
+
+abbrev as-is : Seen → Slices → Seen
+as-is o s = o
+
+-- the port, with other queries, and with something else made of what an insert or a delete does
+abbrev port-but : (Query → Slices → Seen) → (inserts deletes : Seen → Slices → Seen) → Program
+port-but q i d (calls.start form c) s = port (calls.start form c) s
+port-but q i d (query x) s = q x s
+port-but q i d (calls.ask a) s = port (calls.ask a) s
+port-but q i d (edit (insert t total)) s = i (port (edit (insert t total)) s) s
+port-but q i d (edit (delete t)) s = d (port (edit (delete t)) s) s
+
+-- search has one fixed answer, that of minimum
+abbrev as-minimum : Query → Query
+as-minimum (search t) = minimum
+as-minimum (calls.prefix-search t) = calls.prefix-search t
+as-minimum minimum = minimum
+as-minimum calls.maximum = calls.maximum
+as-minimum (calls.next-leaf n) = calls.next-leaf n
+as-minimum (calls.leaf-facts n) = calls.leaf-facts n
+as-minimum (calls.leaf-tag n) = calls.leaf-tag n
+
+abbrev fixed : Program
+fixed = port-but (λ q s. replied (as-minimum q) s) as-is as-is
+
+-- a refused query tells a leaf, by the number of the refusal
+abbrev chatty : Program
+chatty = port-but (λ q s. let o = replied q s in record { told = withLeaf (o .told .leaf + o .told .number) (o .told); slices = o .slices }) as-is as-is
+
+-- an insert does nothing
+abbrev idle : Program
+idle = port-but replied claimed as-is
+
+-- a delete does nothing
+abbrev dropping : Program
+dropping = port-but replied as-is claimed
+
+-- the first for 0, else the second
+abbrev if-zero : ℕ → Seen → Seen → Seen
+if-zero zero x y = x
+if-zero (suc n) x y = y
+
+-- an insert keeps the first tag, and where the minimum finds one does nothing
+abbrev first-only : Program
+first-only = port-but replied (λ o s. if-zero (replied minimum s .told .number) (claimed o s) o) as-is
+
+-- a refused insert writes a key byte
+abbrev scribbler : Program
+scribbler = port-but replied (λ o s. if-zero (o .told .number) o (claimed o (record { words = s .words; keys = set (s .keys) 0 0; scratch = s .scratch }))) as-is
+
+-- an insert leaves a made-up count, 0, in the last word but one
+abbrev uncounted : Slices → Slices
+uncounted s = record { words = set (s .words) (length (s .words) - 2) 0; keys = s .keys; scratch = s .scratch }
+
+abbrev made-up : Program
+made-up = port-but replied (λ o s. claimed o (uncounted (o .slices))) as-is
+
+-- ── one call ──
+a-bytes : Bytes A
+a-bytes = tag-bytes A refl
+
+b-bytes : Bytes B
+b-bytes = tag-bytes B refl
+
+-- a start whose lengths fit would be refused
+pub refuser-refuted : ¬ Numbers refuser
+unfolding opened
+refuser-refuted h =
+    let z : _≡_ {A = ℕ} 6 0 = h (calls.start 1 (caps 2)) tt (lend two 0) .0 0 (due.start-done refl) in
+    omega arith
+
+-- with no word to read, a search would tell leaf 6
+pub chatty-refuted : ¬ Bare chatty
+unfolding opened
+chatty-refuted h =
+    let z : _≡_ {A = ℕ} 6 0 = ap (λ (a : Told). a .leaf) (h (query (search A)) (lend nothing 0) (λ e. omega arith)) in
+    omega arith
+
+-- with no leaf for C, the first byte of A's tag would go
+pub scribbler-refuted : ¬ Unchanged scribbler
+unfolding opened
+scribbler-refuted h =
+    let z : _≡_ {A = ℕ} 0 65 = ap (λ (k : List ℕ). getD k 0 0) (h (edit (insert C 9)) (lend two 3) (λ e. omega arith) .1) in
+    omega arith
+
+-- B would be found in the leaf of A
+pub fixed-refuted : ¬ OnSound fixed
+unfolding opened
+fixed-refuted h =
+    let z : _≡_ {A = ℕ} 0 1 = ap (λ (a : Told). a .leaf) (h (lend two 3) two-sound (query (search B)) b-bytes tt ∙ ap (λ (l : Listing Held). finds (find exact B l)) two-holds) in
+    omega arith
+
+-- ── calls after a start ──
+-- memory that was used before
+abbrev before : Block
+before = record { words = replicate 47 3; keys = replicate 128 9 }
+
+abbrev call : Edit → Turn
+call e = turn e (replicate 3 1)
+
+-- A with 7
+abbrev put-A : List Turn
+put-A = call (insert A 7) ∷ []
+
+-- then B with 8
+abbrev put-both : List Turn
+put-both = call (insert A 7) ∷ call (insert B 8) ∷ []
+
+-- or A out again
+abbrev put-drop : List Turn
+put-drop = call (insert A 7) ∷ call (delete A) ∷ []
+
+-- whoever found a block sound, it holds as many tags
+as-many : {b : Block} {k : Ledger} → Holds b k → (z : Sound (b .words) (b .keys)) {l : Listing Held} → holds z ≡ l → length (totals l) ≡ length (k .list)
+as-many y z e = ap (λ (l : Listing Held). length (totals l)) (sym e ∙ ap held (one-tree z (y .sound))) ∙ ap length (y .totals-are)
+
+-- nothing would be held, where A was accepted
+pub idle-refuted : ¬ AsList idle
+unfolding opened
+idle-refuted h =
+    let z : _≡_ {A = ℕ} 0 1 = as-many (h before 1 (caps 2) [] refl put-A (a-bytes, tt)) bare-sound bare-holds in
+    omega arith
+
+-- A alone would be held, where A and B were accepted
+pub first-only-refuted : ¬ AsList first-only
+unfolding opened
+first-only-refuted h =
+    let z : _≡_ {A = ℕ} 1 2 = as-many (h before 1 (caps 2) [] refl put-both (a-bytes, (b-bytes, tt))) spare-sound spare-holds in
+    omega arith
+
+-- and drawn, with no branching
+pub first-only-undrawn : ¬ Draws first-only
+unfolding opened
+first-only-undrawn h =
+    let z : _≡_ {A = ℕ} 0 1 = ap (λ (d : Drawing ℕ). branchings d) (h before 1 (caps 2) [] refl put-both (a-bytes, (b-bytes, tt))) in
+    omega arith
+
+-- A would be held still, where it was put in and taken out
+pub dropping-refuted : ¬ AsList dropping
+unfolding opened
+dropping-refuted h =
+    let z : _≡_ {A = ℕ} 1 0 = as-many (h before 1 (caps 2) [] refl put-drop (a-bytes, (a-bytes, tt))) spare-sound spare-holds in
+    omega arith
+
+-- the count would be 0 after an accepted new insert
+pub made-up-refuted : ¬ Counts made-up
+unfolding opened
+made-up-refuted h =
+    let z : _≡_ {A = ℕ} 0 1 = h before 1 (caps 2) [] refl put-A (a-bytes, tt) in
+    omega arith
+
+-- a fresh directory would draw nothing still, where A was accepted
+pub identity-refuted : ¬ Draws identity
+unfolding opened
+identity-refuted h =
+    let e : _≡_ {A = Drawing ℕ} drawn.nothing (drawn.one A 7) = h bare 1 (caps 2) [] refl put-A (a-bytes, tt) in
+    let z : _≡_ {A = ℕ} 0 1 = cc in
+    omega arith
