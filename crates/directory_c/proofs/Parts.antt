@@ -17,8 +17,9 @@ use Rattle.leaves.specs.Leaf.{tagLen, tagOf}
 use Rattle.leaves.proofs.Leaves.{tag-short, tag-part, tag-by}
 use Rattle.directory_c.specs.declared.DirectoryPart.{DirectoryPart}
 use Rattle.demands.specs.Calls.{query, leaf-facts, run}
+use Rattle.demands.specs.Told.{toldBy}
 use Rattle.demands.proofs.Told.{tag-long, tag-facts}
-use Rattle.directory_c.specs.Numbers.{lentTwo, leafIn, tagStart, partOf}
+use Rattle.directory_c.specs.Numbers.{lentTwo, leafAs, tagStart, partOf}
 
 no-bytes : (l : List ℕ) → length l ≡ 0 → l ≡ []
 no-bytes [] e = refl
@@ -65,6 +66,6 @@ module _ (words keys : List ℕ) (n : ℕ) where
   part-by false e = refl
 
   -- and it is as long as the other call on the leaf number says
-  pub part-facts : partOf words keys n (tagOf words keys n) .length ≡ leafIn (run (query (leaf-facts n)) (lentTwo words keys) .answer) .length
+  pub part-facts : partOf words keys n (tagOf words keys n) .length ≡ leafAs (toldBy (run (query (leaf-facts n)) (lentTwo words keys) .answer)) .length
   unfolding partOf
   part-facts = part-by (eqb (length tag) 0) refl ∙ tag-facts n (lentTwo words keys)

@@ -2,9 +2,8 @@
 ghost use mathlib.Core.List.{[]};
 ghost use mathlib.Core.Path.{_≡_};
 ghost use Rattle.demands.specs.Calls as calls;
-ghost use Rattle.demands.specs.Calls.{run};
 ghost use Rattle.demands.specs.Told.{toldBy};
-ghost use Rattle.directory_c.specs.Numbers.{lent, lentTwo, capsOf, numberIn, foundIn, leafIn, changed, changedIn, tagStart, partOf, seen, seenIn};
+ghost use Rattle.directory_c.specs.Numbers.{lent, lentTwo, capsOf, numberAs, foundAs, leafAs, changed, changedAs, tagStart, partAs, Does, Replies};
 use delete::answer::Deleted;
 use frames::frame;
 use frames::frame::Caps;
@@ -46,7 +45,7 @@ pub struct DirectoryPart {
 }
 
 fn found(a: Found) -> DirectoryFound
-    ensures { λ r. ⌜ r ≡ foundIn (calls.found a) ⌝ }
+    ensures { λ r. ⌜ r ≡ foundAs (toldBy (calls.found a)) ⌝ }
 {
     match a {
         Found::Leaf(leaf, total) => DirectoryFound {
@@ -73,7 +72,7 @@ fn found(a: Found) -> DirectoryFound
 }
 
 fn facts(a: Facts) -> DirectoryLeaf
-    ensures { λ r. ⌜ r ≡ leafIn (calls.facts a) ⌝ }
+    ensures { λ r. ⌜ r ≡ leafAs (toldBy (calls.facts a)) ⌝ }
 {
     match a {
         Facts::Leaf(length, total) => DirectoryLeaf {
@@ -95,7 +94,7 @@ fn facts(a: Facts) -> DirectoryLeaf
 }
 
 fn start_number(s: Started) -> u32
-    ensures { λ r. ⌜ r ≡ numberIn (calls.started s) ⌝ }
+    ensures { λ r. ⌜ r ≡ numberAs (toldBy (calls.started s)) ⌝ }
 {
     match s {
         Started::Done => 0,
@@ -113,7 +112,7 @@ pub extern "C" fn directory_start(
     c4: u32,
     c5: u32,
 ) -> u32
-    ensures { λ r. ⌜ seen r (now (words .exit)) (now (keys .exit)) [] ≡ seenIn numberIn (run (calls.start 1 (capsOf c1 c2 c3 c4 c5)) (lentTwo (now (words .entry)) (now (keys .entry)))) ⌝ }
+    ensures { λ r. ⌜ Does numberAs (calls.start 1 (capsOf c1 c2 c3 c4 c5)) (lentTwo (now (words .entry)) (now (keys .entry))) r (lent (now (words .exit)) (now (keys .exit)) []) ⌝ }
 {
     let c = Caps {
         c1: c1,
@@ -127,42 +126,42 @@ pub extern "C" fn directory_start(
 
 #[no_mangle]
 pub extern "C" fn directory_search(words: &[u32], keys: &[u8], tag: &[u8]) -> DirectoryFound
-    ensures { λ r. ⌜ r ≡ foundIn (run (calls.query (calls.search (now (tag .entry)))) (lentTwo (now (words .entry)) (now (keys .entry))) .answer) ⌝ }
+    ensures { λ r. ⌜ Replies foundAs (calls.query (calls.search (now (tag .entry)))) (now (words .entry)) (now (keys .entry)) r ⌝ }
 {
     found(tree::lookup::search(words, keys, tag))
 }
 
 #[no_mangle]
 pub extern "C" fn directory_prefix_search(words: &[u32], keys: &[u8], tag: &[u8]) -> DirectoryFound
-    ensures { λ r. ⌜ r ≡ foundIn (run (calls.query (calls.prefix-search (now (tag .entry)))) (lentTwo (now (words .entry)) (now (keys .entry))) .answer) ⌝ }
+    ensures { λ r. ⌜ Replies foundAs (calls.query (calls.prefix-search (now (tag .entry)))) (now (words .entry)) (now (keys .entry)) r ⌝ }
 {
     found(tree::lookup::prefix_search(words, keys, tag))
 }
 
 #[no_mangle]
 pub extern "C" fn directory_minimum(words: &[u32], keys: &[u8]) -> DirectoryFound
-    ensures { λ r. ⌜ r ≡ foundIn (run (calls.query calls.minimum) (lentTwo (now (words .entry)) (now (keys .entry))) .answer) ⌝ }
+    ensures { λ r. ⌜ Replies foundAs (calls.query calls.minimum) (now (words .entry)) (now (keys .entry)) r ⌝ }
 {
     found(tree::minmax::minimum(words, keys))
 }
 
 #[no_mangle]
 pub extern "C" fn directory_maximum(words: &[u32], keys: &[u8]) -> DirectoryFound
-    ensures { λ r. ⌜ r ≡ foundIn (run (calls.query calls.maximum) (lentTwo (now (words .entry)) (now (keys .entry))) .answer) ⌝ }
+    ensures { λ r. ⌜ Replies foundAs (calls.query calls.maximum) (now (words .entry)) (now (keys .entry)) r ⌝ }
 {
     found(tree::minmax::maximum(words, keys))
 }
 
 #[no_mangle]
 pub extern "C" fn directory_next_leaf(words: &[u32], keys: &[u8], leaf: u32) -> DirectoryFound
-    ensures { λ r. ⌜ r ≡ foundIn (run (calls.query (calls.next-leaf leaf)) (lentTwo (now (words .entry)) (now (keys .entry))) .answer) ⌝ }
+    ensures { λ r. ⌜ Replies foundAs (calls.query (calls.next-leaf leaf)) (now (words .entry)) (now (keys .entry)) r ⌝ }
 {
     found(leaves::next_leaf(words, keys, leaf))
 }
 
 #[no_mangle]
 pub extern "C" fn directory_leaf_facts(words: &[u32], keys: &[u8], leaf: u32) -> DirectoryLeaf
-    ensures { λ r. ⌜ r ≡ leafIn (run (calls.query (calls.leaf-facts leaf)) (lentTwo (now (words .entry)) (now (keys .entry))) .answer) ⌝ }
+    ensures { λ r. ⌜ Replies leafAs (calls.query (calls.leaf-facts leaf)) (now (words .entry)) (now (keys .entry)) r ⌝ }
 {
     facts(leaves::leaf_facts(words, keys, leaf))
 }
@@ -180,7 +179,7 @@ fn tag_start(words: &[u32], keys: &[u8], leaf: u32) -> u64
 
 #[no_mangle]
 pub extern "C" fn directory_leaf_tag(words: &[u32], keys: &[u8], leaf: u32) -> DirectoryPart
-    ensures { λ r. ⌜ r ≡ partOf (now (words .entry)) (now (keys .entry)) leaf (toldBy (run (calls.query (calls.leaf-tag leaf)) (lentTwo (now (words .entry)) (now (keys .entry))) .answer) .tag) ⌝ }
+    ensures { λ r. ⌜ Replies (partAs (now (words .entry)) (now (keys .entry)) leaf) (calls.query (calls.leaf-tag leaf)) (now (words .entry)) (now (keys .entry)) r ⌝ }
 {
     let tag = leaves::leaf_tag(words, keys, leaf);
     let n = tag.len();
@@ -197,7 +196,7 @@ pub extern "C" fn directory_leaf_tag(words: &[u32], keys: &[u8], leaf: u32) -> D
 }
 
 fn check_number(c: Checked) -> u32
-    ensures { λ r. ⌜ r ≡ numberIn (calls.checked c) ⌝ }
+    ensures { λ r. ⌜ r ≡ numberAs (toldBy (calls.checked c)) ⌝ }
 {
     match c {
         Checked::Sound => 0,
@@ -208,13 +207,13 @@ fn check_number(c: Checked) -> u32
 
 #[no_mangle]
 pub extern "C" fn directory_check(words: &[u32], keys: &[u8], scratch: &mut [u8]) -> u32
-    ensures { λ r. ⌜ seen r (now (words .entry)) (now (keys .entry)) (now (scratch .exit)) ≡ seenIn numberIn (run (calls.ask calls.check) (lent (now (words .entry)) (now (keys .entry)) (now (scratch .entry)))) ⌝ }
+    ensures { λ r. ⌜ Does numberAs (calls.ask calls.check) (lent (now (words .entry)) (now (keys .entry)) (now (scratch .entry))) r (lent (now (words .entry)) (now (keys .entry)) (now (scratch .exit))) ⌝ }
 {
     check_number(whole::check::check(words, keys, scratch))
 }
 
 fn after_found(a: After) -> DirectoryFound
-    ensures { λ r. ⌜ r ≡ foundIn (calls.after a) ⌝ }
+    ensures { λ r. ⌜ r ≡ foundAs (toldBy (calls.after a)) ⌝ }
 {
     match a {
         After::Leaf(leaf, total) => DirectoryFound {
@@ -247,7 +246,7 @@ pub extern "C" fn directory_first_at_or_after(
     scratch: &mut [u8],
     tag: &[u8],
 ) -> DirectoryFound
-    ensures { λ r. ⌜ seen r (now (words .entry)) (now (keys .entry)) (now (scratch .exit)) ≡ seenIn foundIn (run (calls.ask (calls.first-at-or-after (now (tag .entry)))) (lent (now (words .entry)) (now (keys .entry)) (now (scratch .entry)))) ⌝ }
+    ensures { λ r. ⌜ Does foundAs (calls.ask (calls.first-at-or-after (now (tag .entry)))) (lent (now (words .entry)) (now (keys .entry)) (now (scratch .entry))) r (lent (now (words .entry)) (now (keys .entry)) (now (scratch .exit))) ⌝ }
 {
     after_found(range::first_at_or_after(words, keys, scratch, tag))
 }
@@ -262,7 +261,7 @@ fn changed(number: u32, total: u64) -> DirectoryChanged
 }
 
 fn insert_change(a: Inserted) -> DirectoryChanged
-    ensures { λ r. ⌜ r ≡ changedIn (calls.inserted a) ⌝ }
+    ensures { λ r. ⌜ r ≡ changedAs (toldBy (calls.inserted a)) ⌝ }
 {
     match a {
         Inserted::New => changed(0, 0),
@@ -284,13 +283,13 @@ pub extern "C" fn directory_insert(
     tag: &[u8],
     total: u64,
 ) -> DirectoryChanged
-    ensures { λ r. ⌜ seen r (now (words .exit)) (now (keys .exit)) (now (scratch .exit)) ≡ seenIn changedIn (run (calls.edit (calls.insert (now (tag .entry)) total)) (lent (now (words .entry)) (now (keys .entry)) (now (scratch .entry)))) ⌝ }
+    ensures { λ r. ⌜ Does changedAs (calls.edit (calls.insert (now (tag .entry)) total)) (lent (now (words .entry)) (now (keys .entry)) (now (scratch .entry))) r (lent (now (words .exit)) (now (keys .exit)) (now (scratch .exit))) ⌝ }
 {
     insert_change(insert::insert::insert(words, keys, scratch, tag, total))
 }
 
 fn delete_change(a: Deleted) -> DirectoryChanged
-    ensures { λ r. ⌜ r ≡ changedIn (calls.deleted a) ⌝ }
+    ensures { λ r. ⌜ r ≡ changedAs (toldBy (calls.deleted a)) ⌝ }
 {
     match a {
         Deleted::Gone(total) => changed(0, total),
@@ -307,7 +306,7 @@ pub extern "C" fn directory_delete(
     scratch: &mut [u8],
     tag: &[u8],
 ) -> DirectoryChanged
-    ensures { λ r. ⌜ seen r (now (words .exit)) (now (keys .exit)) (now (scratch .exit)) ≡ seenIn changedIn (run (calls.edit (calls.delete (now (tag .entry)))) (lent (now (words .entry)) (now (keys .entry)) (now (scratch .entry)))) ⌝ }
+    ensures { λ r. ⌜ Does changedAs (calls.edit (calls.delete (now (tag .entry)))) (lent (now (words .entry)) (now (keys .entry)) (now (scratch .entry))) r (lent (now (words .exit)) (now (keys .exit)) (now (scratch .exit))) ⌝ }
 {
     delete_change(delete::delete::delete(words, keys, scratch, tag))
 }

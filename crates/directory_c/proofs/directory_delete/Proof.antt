@@ -1,14 +1,20 @@
 -- `directory_c::directory_delete` meets its contract: the answer as C sees it, and the slices as the call leaves them.
-use mathlib.Core.Path.{ap}
+use mathlib.Core.Path.{ap, _∙_}
+use native.Mathlib.Omega.{arith}
 use Rattle.delete.specs.Delete.{Out}
 use Rattle.demands.specs.Calls.{deleted}
-use Rattle.directory_c.specs.Numbers.{changedIn, seen}
+use Rattle.demands.specs.Told.{toldBy}
+use Rattle.directory_c.specs.Numbers.{lent, changedAs}
 use borrow.Author.Needs.{needs}
+use Rattle.directory_c.proofs.Promises.{does}
 use Rattle.directory_c.proofs.directory_delete.Statement.{statement}
 use Rattle.directory_c.proofs.directory_delete.Tie as tie
 
 returns : tie.Need-returns
-returns c = rw (c .delete-change .ensures) (ap (λ (o : Out). seen (changedIn (deleted (o .answer))) (o .words) (o .keys) (o .scratch)) (c .before .before .before .before .before .before .before .delete .ensures))
+returns c =
+    let e = c .before .before .before .before .before .before .before .delete .ensures in
+    does (λ i. omega (arith, c .before .before .before .before .before .before .before .before .before .before .before .shared-slice-known .given i))
+    (c .delete-change .ensures ∙ ap (λ (o : Out). changedAs (toldBy (deleted (o .answer)))) e) (ap (λ (o : Out). lent (o .words) (o .keys) (o .scratch)) e)
 
 pub directory-delete-spec : {M : Type 1} → statement M
 directory-delete-spec =
