@@ -1,5 +1,7 @@
 // A small plant's pumps and their flow totals, kept in lent memory: put in, read, one set again, one scrapped, and added up by station. A line for each call says
 // what was asked and what came back. examples/plant.c and examples/plant.rs print the same.
+ghost use Rattle.plant.specs.Noted.{Noted};
+use directory_c::DirectoryChanged;
 use directory_c::DirectoryFound;
 
 // Memory for 8 tags, whatever they are: capacities 8, 2, 0, 0 and 8, so 8 × 19 + 2 × 43 + 8 × 6 + 16 words, 64 key bytes a tag, and a scratch byte a record.
@@ -30,10 +32,17 @@ fn answer(number: u32, done: &[u8], total: u64) {
     text::named(b"$\n", text::read::word(meanings, number, b'|'));
 }
 
-// Puts a total in, or over the one that is held. Scratch is lent for one call, so each call that wants it has its own.
-fn put(words: &mut [u32], keys: &mut [u8], tag: &[u8], total: u64, call: &[u8], done: &[u8]) {
+// Puts a total in, or over the one that is held: once that is done a search gives it, and what is held for other tags is as it was. Scratch is lent for one call, so
+// each call that wants it has its own.
+fn note(words: &mut [u32], keys: &mut [u8], tag: &[u8], total: u64) -> DirectoryChanged
+    ensures { λ r. ⌜ Noted (now (words .entry)) (now (keys .entry)) (now (tag .entry)) total r (now (words .exit)) (now (keys .exit)) ⌝ }
+{
     let mut scratch = [0u8; SCRATCH];
-    let a = directory_c::directory_insert(words, keys, &mut scratch, tag, total);
+    directory_c::directory_insert(words, keys, &mut scratch, tag, total)
+}
+
+fn put(words: &mut [u32], keys: &mut [u8], tag: &[u8], total: u64, call: &[u8], done: &[u8]) {
+    let a = note(words, keys, tag, total);
     text::fill(call, tag, total, 0, 0);
     answer(a.number, done, a.total);
 }
