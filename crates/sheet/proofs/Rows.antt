@@ -1,6 +1,5 @@
 -- The bench sheet holds: its rows have no variables, so that the definitions of the calls compute to what each row says.
 use mathlib.Core.Path.{_≡_, refl}
-use native.Mathlib.Decide.{ℕ-discrete}
 use Rattle.prefix.specs.Run.{prefixOf, splitOf, mergeOf}
 use Rattle.prefix.specs.Match.{matchOf}
 use Rattle.lists.specs.Part.{splice}
@@ -37,10 +36,10 @@ use Rattle.insert.specs.Insert.{insertSound, insertChecked, tooLong, insertOf}
 use Rattle.delete.specs.Plan as delete-plan
 use Rattle.delete.specs.Apply.{merged, pruned, goneWords}
 use Rattle.delete.specs.Delete.{deleteSound, deleteChecked, deleteOf}
-use Rattle.art.specs.Tags.{order, tag-dec, begins-dec}
-use Rattle.sheet.specs.Sheet.{step, givenFrom, wantedOf, given, wanted, rows}
+use Rattle.art.specs.Tags.{order}
+use Rattle.sheet.specs.Sheet.{cameFrom, came-all, rows}
 
--- rows a to l, with every block on the way sound
-pub sheet : given rows ≡ wanted rows
-unfolding prefixOf splitOf mergeOf matchOf splice shiftIn shiftOut kindRow formKnown formOf packOf storedOf formFits trailerFits frameFits frameOf prefixAt headOk sortedOk bodyOk innerOk sortedChild childOf childAt leafOk totalOf bodyRow cellOf setPrefix setHead sortedAdd sortedRemove bodyChange sortedBody bodyOf changeOf buildRec lowestFree freeKind setTrailer setLink setNext setPrevious leafWords startFits startFitsIn trailerWords startOf arrivalAt withFrame edgeRef edgeStep edgeOf walk.leafAnswer walk.innerStep walk.stepOf walk.walkOf placesIn fresh reached tagAt goesOn storedAgrees leafVisit turnAt rowEnd rowBy recordBy sweptAt sweptPool swept rootWay wayWell wholeBy checkOf range.below range.leafStep range.stepOf range.afterFrom range.afterOf points.leafPoint points.runOf points.innerStep points.stepOf points.pointFrom points.pointOf changeAt prefixedAt branchAt clearAt leafIn keyIn leafOut keyOut insert-plan.intoChoice insert-plan.forkChoice insert-plan.leafPlan insert-plan.pointPlan insert-plan.planOf forked hung newWords insertSound insertChecked tooLong insertOf delete-plan.otherEntry delete-plan.cutUnder delete-plan.pointPlan delete-plan.planOf merged pruned goneWords deleteSound deleteChecked deleteOf order tag-dec begins-dec ℕ-discrete step givenFrom wantedOf given wanted rows
+-- rows a to l: what comes of each line is what is written there, and every block on the way is sound
+pub sheet : came-all rows ≡ rows
+unfolding prefixOf splitOf mergeOf matchOf splice shiftIn shiftOut kindRow formKnown formOf packOf storedOf formFits trailerFits frameFits frameOf prefixAt headOk sortedOk bodyOk innerOk sortedChild childOf childAt leafOk totalOf bodyRow cellOf setPrefix setHead sortedAdd sortedRemove bodyChange sortedBody bodyOf changeOf buildRec lowestFree freeKind setTrailer setLink setNext setPrevious leafWords startFits startFitsIn trailerWords startOf arrivalAt withFrame edgeRef edgeStep edgeOf walk.leafAnswer walk.innerStep walk.stepOf walk.walkOf placesIn fresh reached tagAt goesOn storedAgrees leafVisit turnAt rowEnd rowBy recordBy sweptAt sweptPool swept rootWay wayWell wholeBy checkOf range.below range.leafStep range.stepOf range.afterFrom range.afterOf points.leafPoint points.runOf points.innerStep points.stepOf points.pointFrom points.pointOf changeAt prefixedAt branchAt clearAt leafIn keyIn leafOut keyOut insert-plan.intoChoice insert-plan.forkChoice insert-plan.leafPlan insert-plan.pointPlan insert-plan.planOf forked hung newWords insertSound insertChecked tooLong insertOf delete-plan.otherEntry delete-plan.cutUnder delete-plan.pointPlan delete-plan.planOf merged pruned goneWords deleteSound deleteChecked deleteOf order cameFrom came-all rows
 sheet = refl
