@@ -3,12 +3,13 @@ use mathlib.Core.Path.{_≡_, refl, sym, ap, ap₂, _∙_}
 use mathlib.Core.Logic.{_≢_, ite}
 use mathlib.Core.Bool.{Bool, true, false}
 use mathlib.Core.Option.{Option, none, some}
-use mathlib.Core.List.{[], _∷_, _++_, append-assoc, append-nil, head-eq-of-cons-eq, append-cancel-left}
+use mathlib.Core.List.{[], _∷_, _++_, append-nil, head-eq-of-cons-eq}
 use Prim.Native.Nat.{ℕ, suc, _<_}
 use native.Mathlib.Decide.{ℕ-discrete}
 use native.Mathlib.Omega.{arith}
 use lib.ListN.{length, length-append}
 use Rattle.art.specs.Tags.{Tag, Listing, tag-dec}
+use Rattle.art.proofs.Tags.{part-not-begins}
 use Rattle.art.proofs.Listings.{every-all, every-imp, every-under, under-under}
 use Rattle.art.specs.Listings.{under}
 use Rattle.art.proofs.Trees.{row-above, row-filled}
@@ -98,7 +99,7 @@ module _ {A : Type 0} where
       go (same e) = stays (λ z h i. omega (arith, simp length-append at (ap length (sym e ∙ i))))
       go (short y v e) = stays (λ z h i. omega (arith, simp length-append at (ap length i), simp length-append at (ap length e)))
       go (long x u e) = child-law x u (lost-row f r x u) refl ∙ sym (alter-under f run (x ∷ u) (row-contents r)) ∙ ap (λ (z : Tag). alter f z (under run (row-contents r))) (sym e)
-      go (part c x u y v i j ne) = stays (λ z h k. ne (head-eq-of-cons-eq (append-cancel-left c (x ∷ u) (y ∷ v ++ z) (sym i ∙ k ∙ ap (λ (q : Tag). q ++ z) j ∙ append-assoc c (y ∷ v) z))))
+      go (part c x u y v i j ne) = stays (λ z h k. part-not-begins s run c x u y v i j ne (z, k))
 
   prune-row-child : (f : A → Option A) (c : ℕ) (t t′ : Tree A) (r r′ : Row A) (x : ℕ) (u : Tag) → Above c r → lost-row f (child c t r) x u ≡ false
       → (lost f t u ≡ false → contents t′ ≡ alter f u (contents t)) → (lost-row f r x u ≡ false → row-contents r′ ≡ alter f (x ∷ u) (row-contents r))

@@ -27,6 +27,7 @@ pub mod Sample
 pub mod Refs
 pub mod Lean
 pub mod Reach
+pub mod Clashes
 pub mod InsertPoints
 pub mod DeletePoints
 pub mod AlterPoints

@@ -1,7 +1,8 @@
 -- The order of tags, and what it is to begin one, to fit one, and to stand below a path.
 use mathlib.Core.Path.{_≡_, refl, sym, ap, _∙_}
-use mathlib.Core.Logic.{inl, inr}
+use mathlib.Core.Logic.{inl, inr, _≢_}
 use mathlib.Core.List.{[], _∷_, _++_, append-assoc, append-nil, head-eq-of-cons-eq, tail-eq-of-cons-eq, append-cancel-left}
+use Prim.Native.Nat.{ℕ}
 use native.Mathlib.Omega.{arith}
 use lib.ListN.{length}
 use Rattle.art.specs.Tags.{Tag, Before, Less, Begins, Aim, exact, begin, Fits}
@@ -31,6 +32,11 @@ pub before-of : (s t : Tag) → Less s t → ¬ Begins s t → Before s t
 before-of [] (y ∷ t) h n = n (y ∷ t, refl)
 before-of (x ∷ s) (y ∷ t) (inl h) n = inl h
 before-of (x ∷ s) (y ∷ t) (inr h) n = inr (h .0, before-of s t (h .1) (λ b. n (b .0, λ i. sym (h .0) i ∷ (b .1) i)))
+
+-- of two tags that part at a byte neither begins the other
+pub part-not-begins : (s t c : Tag) (x : ℕ) (u : Tag) (y : ℕ) (v : Tag) → s ≡ c ++ x ∷ u → t ≡ c ++ y ∷ v → x ≢ y → ¬ Begins t s
+part-not-begins s t c x u y v i j ne b =
+    ne (head-eq-of-cons-eq (append-cancel-left c (x ∷ u) (y ∷ v ++ b .0) (sym i ∙ b .1 ∙ ap (λ (q : Tag). q ++ b .0) j ∙ append-assoc c (y ∷ v) (b .0))))
 
 -- tags that are equal, cut after as many bytes, have equal parts
 pub cut : (p q : Tag) → length p ≡ length q → (s t : Tag) → p ++ s ≡ q ++ t → (p ≡ q) × (s ≡ t)

@@ -1,12 +1,12 @@
 -- The walk over a tree judges a tag as the listing does: held, in a clash with a held one, or free to go in.
 use mathlib.Core.Path.{_≡_, refl, sym, ap, ap₂, _∙_}
 use mathlib.Core.Logic.{inl, inr, _≢_, ite}
-use mathlib.Core.List.{[], _∷_, _++_, append-assoc, append-nil, head-eq-of-cons-eq, append-cancel-left}
+use mathlib.Core.List.{[], _∷_, _++_, append-assoc, append-nil}
 use Prim.Native.Nat.{ℕ, _<_}
 use native.Mathlib.Decide.{ℕ-discrete}
 use native.Mathlib.Omega.{arith}
 use lib.ListN.{length, length-append}
-use Rattle.art.proofs.Tags.{before-under}
+use Rattle.art.proofs.Tags.{before-under, part-not-begins}
 use Rattle.art.specs.Tags.{Tag, Listing, Order, order, below, equal, above}
 use Rattle.art.proofs.Listings.{every-all, every-imp, every-under}
 use Rattle.art.specs.Listings.{Every, under}
@@ -45,8 +45,7 @@ verdict-clash : (s z t : Tag) (m : Meet s t) → 0 < length z → t ≡ s ++ z �
 verdict-clash s z t (same e) h i = absurd (omega (arith, simp length-append at (ap length (e ∙ i))))
 verdict-clash s z t (short y v e) h i = refl
 verdict-clash s z t (long x u e) h i = absurd (omega (arith, simp length-append at (ap length e), simp length-append at (ap length i)))
-verdict-clash s z t (part c x u y v i j ne) h k =
-    absurd (ne (sym (head-eq-of-cons-eq (append-cancel-left c (y ∷ v) (x ∷ u ++ z) (sym j ∙ k ∙ ap (λ (q : Tag). q ++ z) i ∙ append-assoc c (x ∷ u) z)))))
+verdict-clash s z t (part c x u y v i j ne) h k = absurd (part-not-begins t s c y v x u j i (λ e. ne (sym e)) (z, k))
 
 verdict-cons : (x : ℕ) (s t : Tag) (d : Dec (x ≡ x)) (m : Meet s t) → verdict (meet-cons x x s t d m) ≡ verdict m
 verdict-cons x s t (no n) m = absurd (n refl)

@@ -1,10 +1,11 @@
 -- Listings: what is true of all entries, sorted ones, a listing put under a path.
-use mathlib.Core.Logic.{ite}
+use mathlib.Core.Logic.{_⊎_, ite}
 use mathlib.Core.Option.{Option, none, some}
 use mathlib.Core.List.{[], _∷_, _++_}
 use Prim.Native.Nat.{ℕ}
 use lib.ListN.{drop}
-use Rattle.art.specs.Tags.{Tag, Listing, Before, Aim, exact, fits-dec}
+use Rattle.art.specs.Tags.{Tag, Listing, Before, Begins, Aim, exact, fits-dec}
+use Rattle.art.specs.Members.{In}
 
 module _ {A : Type 0} where
   -- every entry's tag
@@ -36,3 +37,7 @@ module _ {A : Type 0} where
   -- what is held for a tag
   abbrev pub lookup : Tag → Listing A → Option A
   lookup s l = find exact s l
+
+  -- a held tag begins with the bytes, or they begin with it; one that is equal to them does both
+  abbrev pub Clashes : Tag → Listing A → Type 0
+  Clashes s l = (e : Tag × A) × In e l × (Begins s (e .0) ⊎ Begins (e .0) s)

@@ -18,6 +18,8 @@ use Rattle.records.specs.View.{Held, places}
 use Rattle.art.specs.Tags.{Tag}
 use Rattle.art.specs.Trees.{Tree, contents, Good}
 use Rattle.art.specs.Deletes.{held, Sane}
+use Rattle.art.specs.Verdicts as verdicts
+use Rattle.art.specs.Verdicts.{judge}
 use Rattle.art.specs.Facts.{height}
 use Rattle.art.specs.Stores.{inner-place, Cell, inner-cell, Store, Used, root, store, Once}
 use Rattle.art.specs.Refs.{Refs, find-ref}
@@ -161,23 +163,23 @@ module _ {words keys : List ℕ} (s : Sound words keys) (tag : Tag) (bytes : Byt
   abbrev f : Frame
   f = frame words
 
-  -- what holds of its store, and leaves no point of a tree without a record, leaves no tag without one
+  -- what holds of its store, and leaves no point of a tree without a record, leaves no tag that is free to go in without one
   by-tree : (P : Store Held → Type 0) → P (store-of (s .tree))
       → ((t : Tree Held) → Good t → Once t [] → State f words keys (store t []) (linksOf f words) (rootWord words) (length (contents t)) → P (store t []) → (pt : art.Point) → PointFits (store t []) tag pt → ¬ Lacks f (store t []) pt)
-      → ¬ Lacking f (s .tree) tag
-  by-tree P h room = go (s .tree) (s .good) (s .once) (sound-state s) h
+      → judge tag (held (s .tree)) ≡ verdicts.free → ¬ Lacking f (s .tree) tag
+  by-tree P h room v = go (s .tree) (s .good) (s .once) (sound-state s) h v
     where
-      go : (d : Option (Tree Held)) → Sane d → OnceOf d → State f words keys (store-of d) (linksOf f words) (rootWord words) (length (held d)) → P (store-of d) → ¬ Lacking f d tag
-      go none g o st h = λ l. l
-      go (some t) g o st h =
-          subst (λ (lacks : Type 0). ¬ lacks) (lacking-is f t g o tag)
+      go : (d : Option (Tree Held)) → Sane d → OnceOf d → State f words keys (store-of d) (linksOf f words) (rootWord words) (length (held d)) → P (store-of d) → judge tag (held d) ≡ verdicts.free → ¬ Lacking f d tag
+      go none g o st h v = λ l. l
+      go (some t) g o st h v =
+          subst (λ (lacks : Type 0). ¬ lacks) (lacking-is f t g o tag v)
           (room t g o st h (art.point (suc (height t)) (store t []) (root t) tag) (point-fits (store t []) (suc (height t)) t g (store-shows t [] o) (omega arith) tag))
 
   -- with kind 4 large enough, whatever was done to the block before
-  pub never-lacks : Large f → ¬ LeavesFull f (store-of (s .tree)) → ¬ Lacking f (s .tree) tag
-  never-lacks large free = by-tree (λ σ. ¬ LeavesFull f σ) free (λ t g o st h. large-room t st tag bytes g o large h)
+  pub never-lacks : Large f → judge tag (held (s .tree)) ≡ verdicts.free → ¬ LeavesFull f (store-of (s .tree)) → ¬ Lacking f (s .tree) tag
+  never-lacks large v room = by-tree (λ σ. ¬ LeavesFull f σ) room (λ t g o st h. large-room t st tag bytes g o large h) v
 
   -- with ample capacities, where every record is in the smallest kind that holds its children
-  pub tight-never-lacks : Tight f words keys → AmpleFrame f → ¬ LeavesFull f (store-of (s .tree)) → ¬ Lacking f (s .tree) tag
-  tight-never-lacks tight ample free =
-      by-tree (λ σ. TightIn σ × ¬ LeavesFull f σ) (tight-store s tight, free) (λ t g o st h. ample-room t st tag bytes g o (h .0) ample (h .1))
+  pub tight-never-lacks : Tight f words keys → AmpleFrame f → judge tag (held (s .tree)) ≡ verdicts.free → ¬ LeavesFull f (store-of (s .tree)) → ¬ Lacking f (s .tree) tag
+  tight-never-lacks tight ample v room =
+      by-tree (λ σ. TightIn σ × ¬ LeavesFull f σ) (tight-store s tight, room) (λ t g o st h. ample-room t st tag bytes g o (h .0) ample (h .1)) v

@@ -204,6 +204,15 @@ first-answers {f} {words} {keys} s st tag = go (eqb (rootWord words) 0) refl
     go true e = leaf-answers s st tag free refl ⊥ (At Root) (λ h. let z : _≡_ {A = ℕ} 0 1 = cc in omega arith) (λ site h n. n)
     go false e = absurd (eqb-false (rootWord words) 0 e (s .rooted))
 
+-- what lacks is only asked of a tag that is free to go in
+answers-by : {v : Verdict} (full : Type 0) {lacks lacking : Type 0} → (v ≡ free → lacks ≡ lacking) → (p : Plan) → Answers v full lacks p → Answers v full lacking p
+answers-by full is (Over leaf) h = h
+answers-by full is (New site n gap) h = (h .0, h .1, subst (λ (X : Type 0). ¬ X) (is (h .0)) (h .2))
+answers-by full is Clash h = h
+answers-by full is NoLeaf h = h
+answers-by full is NoRecord h = (h .0, h .1, subst (λ (X : Type 0). X) (is (h .0)) (h .2))
+answers-by full is Broken h = h
+
 pub plan-answers : {words keys : List ℕ} (s : Sound words keys) (tag : List ℕ) → Bytes tag
     → Answers (judge tag (held (s .tree))) (LeavesFull (frame words) (store-of (s .tree))) (Lacking (frame words) (s .tree) tag) (planOf (frame words) words keys tag)
 plan-answers {words} {keys} s tag bytes = go (s .tree) (sound-shown s) (sound-state s)
@@ -211,9 +220,7 @@ plan-answers {words} {keys} s tag bytes = go (s .tree) (sound-shown s) (sound-st
     go : (d : Option (Tree Held)) → Shown (frame words) words keys d → State (frame words) words keys (store-of d) (linksOf (frame words) words) (rootWord words) (length (held d))
         → Answers (judge tag (held d)) (LeavesFull (frame words) (store-of d)) (Lacking (frame words) d tag) (planOf (frame words) words keys tag)
     go none sh st = first-answers sh st tag
-    go (some t) sh st =
-        subst (λ (lacks : Type 0). Answers (judge tag (contents t)) (LeavesFull (frame words) (store t [])) lacks (planOf (frame words) words keys tag)) (lacking-is (frame words) t (sh .good) (sh .once) tag)
-        (tree-answers sh st tag bytes)
+    go (some t) sh st = answers-by (LeavesFull (frame words) (store t [])) (lacking-is (frame words) t (sh .good) (sh .once) tag) (planOf (frame words) words keys tag) (tree-answers sh st tag bytes)
 
 -- ── the conditions shut each other out, so that each answer is given exactly where its own holds ──
 free-known : {X : Type 0} {v : Verdict} → v ≡ free → v ≡ known → X

@@ -1,62 +1,70 @@
--- What a new tag lacks at its point is what it lacks by its tree: the way to the point ends as the tag meets runs, children and leaves.
-use Prim.Native.Nat.{ℕ, suc}
+-- What a new tag lacks at its point is what it lacks by its tree: the way of a tag that is free to go in ends where it parts from a run or a leaf, or at a record with no child for its next byte.
+use Prim.Native.Nat.{ℕ, suc, _≤_}
 use mathlib.Core.Path.{_≡_, refl, sym, ap, _∙_}
-use mathlib.Core.Logic.{ite}
-use mathlib.Core.List.{[]}
-use mathlib.Core.Option.{some}
+use mathlib.Core.Logic.{ite, if-pos, if-neg}
+use mathlib.Core.List.{[], _∷_, _++_, head-eq-of-cons-eq}
+use mathlib.Core.Option.{Option, none, some}
 use native.Mathlib.Decide.{ℕ-discrete}
 use native.Mathlib.Omega.{arith}
-use lib.ListN.{length}
+use lib.ListN.{length, drop}
+use lib.Seq.{drop-append-seam}
+use Rattle.frames.specs.Kind.{childrenOf}
 use Rattle.frames.specs.declared.frame.Frame.{Frame}
 use Rattle.records.specs.View.{Held}
-use Rattle.art.specs.Tags.{Tag}
-use Rattle.art.specs.Trees.{Tree, Row, end, child, count, Good}
+use Rattle.art.specs.Tags.{Tag, begins-dec}
+use Rattle.art.specs.Trees.{Tree, inner, Row, end, child, count, contents, Good}
+use Rattle.art.specs.Verdicts.{free, judge}
 use Rattle.art.specs.Facts.{height}
-use Rattle.art.specs.Stores.{inner-place, Cell, Store, root, store, Once}
+use Rattle.art.specs.Stores.{Cell, Store, root, store, Once}
 use Rattle.art.specs.Points as art
-use Rattle.art.specs.Points.{Up, top, point, cell-refs}
+use Rattle.art.specs.Points.{Up, top, point, point-verdict, cell-refs}
+use Rattle.art.proofs.Tags.{part-not-begins}
 use Rattle.art.proofs.Walks.{store-shows}
 use Rattle.art.proofs.Refs.{at-kid, at-none, count-refs}
 use Rattle.art.proofs.Reach.{Reach, held-leaf, short-leaf, long-leaf, part-leaf, same-run, short-run, part-run, no-kid, a-kid, seek-reaches}
-use Rattle.insert.specs.Room.{InnersFull, Lacks, Want, no-record, a-branching, a-child, wantBy, wantIn, wantRow, Unmet, Lacking}
+use Rattle.art.proofs.InsertPoints.{point-judges}
+use Rattle.insert.specs.Room.{InnersFull, Lacks, joins, joinsRow, Lacking}
 
--- what it wants at its point
-abbrev want-at : Store Held → art.Point → Want
-want-at σ (art.holds upper up n) = no-record
-want-at σ art.clashes = no-record
-want-at σ (art.into up k n x) = a-child k (length (cell-refs (σ (inner-place k n))))
-want-at σ (art.fork up y w d c) = a-branching
-want-at σ art.broken = no-record
+-- ── the branching that a tag joins ──
+joins-kid : (here : ℕ × ℕ) (r : Row Held) (x : ℕ) (u : Tag) → joinsRow here r (x ∷ u) ≡ at-kid (some here) (λ c t. joins t u) x r
+joins-kid here end x u = refl
+joins-kid here (child c t r) x u = go (ℕ-discrete x c) (joins-kid here r x u)
+  where
+    go : (d : Dec (x ≡ c)) → joinsRow here r (x ∷ u) ≡ at-kid (some here) (λ c t. joins t u) x r
+        → ite (begins-dec (c ∷ []) (x ∷ u)) (joins t u) (joinsRow here r (x ∷ u)) ≡ ite d (joins t u) (at-kid (some here) (λ c t. joins t u) x r)
+    go (yes e) ih = if-pos (begins-dec (c ∷ []) (x ∷ u)) (u, ap (λ (b : ℕ). b ∷ u) e) _ _
+    go (no n) ih = if-neg (begins-dec (c ∷ []) (x ∷ u)) (λ b. n (head-eq-of-cons-eq (b .1))) _ _ ∙ ih
 
-lacks-unmet : (f : Frame) (σ : Store Held) (pt : art.Point) → Lacks f σ pt ≡ Unmet (InnersFull f σ) (want-at σ pt)
-lacks-unmet f σ (art.holds upper up n) = refl
-lacks-unmet f σ art.clashes = refl
-lacks-unmet f σ (art.into up k n x) = refl
-lacks-unmet f σ (art.fork up y w d c) = refl
-lacks-unmet f σ art.broken = refl
+-- past its run a record is left by the next byte
+joins-past : (k n : ℕ) (run : Tag) (r : Row Held) (s : Tag) (x : ℕ) (u : Tag) → s ≡ run ++ x ∷ u → joins (inner k n run r) s ≡ at-kid (some (k, count r)) (λ c t. joins t u) x r
+joins-past k n run r s x u e =
+    if-pos (begins-dec run s) (x ∷ u, e) _ _
+    ∙ ap (joinsRow (k, count r) r) (ap (drop (length run)) e ∙ drop-append-seam run (x ∷ u))
+    ∙ joins-kid (k, count r) r x u
 
-want-kid : (here : Want) (r : Row Held) (x : ℕ) (u : Tag) → wantRow here r x u ≡ at-kid here (λ c t. wantIn t u) x r
-want-kid here end x u = refl
-want-kid here (child c t r) x u = ap (ite (ℕ-discrete x c) (wantIn t u)) (want-kid here r x u)
+-- ── at the end of the way ──
+module _ (f : Frame) (σ : Store Held) where
+  -- the record that it wants, given what it joins, is not to be had
+  abbrev Unmet : Option (ℕ × ℕ) → Type 0
+  Unmet o = elim o [ none ↦ InnersFull f σ 1 | some b ↦ (childrenOf (b .0) ≤ b .1) × InnersFull f σ (suc (b .0)) ]
 
-reach-want : {σ : Store Held} {t : Tree Held} {p u : Tag} {upper up : Up} {pt : art.Point} → Reach σ t p u upper up pt → want-at σ pt ≡ wantIn t u
-reach-want (held-leaf e em h) = ap (λ m. wantBy m (λ x u. no-record)) (sym em)
-reach-want (short-leaf y w e em) = ap (λ m. wantBy m (λ x u. no-record)) (sym em)
-reach-want (long-leaf x w e em) = ap (λ m. wantBy m (λ x u. no-record)) (sym em)
-reach-want (part-leaf c x i y j e e′ ne em h) = ap (λ m. wantBy m (λ x u. no-record)) (sym em)
-reach-want (same-run {k} {n} {run} {r} e em) = ap (λ m. wantBy m (λ x u. wantRow (a-child k (count r)) r x u)) (sym em)
-reach-want (short-run {k} {n} {run} {r} y w e em) = ap (λ m. wantBy m (λ x u. wantRow (a-child k (count r)) r x u)) (sym em)
-reach-want (part-run {k} {n} {run} {r} c x i y j e e′ ne em h w z ew) = ap (λ m. wantBy m (λ x u. wantRow (a-child k (count r)) r x u)) (sym em)
-reach-want (no-kid {k} {n} {run} {r} x w e em nh eh h) =
-    ap (λ (c : Cell Held). a-child k (length (cell-refs c))) h ∙ ap (a-child k) (count-refs r)
-    ∙ sym (at-none (a-child k (count r)) (λ c t. wantIn t w) x r nh) ∙ sym (want-kid (a-child k (count r)) r x w)
-    ∙ ap (λ m. wantBy m (λ x u. wantRow (a-child k (count r)) r x u)) (sym em)
-reach-want (a-kid {k} {n} {run} {r} x w e em i eh h hr kid b) =
-    reach-want b
-    ∙ sym (kid .picks Want (a-child k (count r)) (λ c t. wantIn t w)) ∙ sym (want-kid (a-child k (count r)) r x w)
-    ∙ ap (λ m. wantBy m (λ x u. wantRow (a-child k (count r)) r x u)) (sym em)
+  reach-lacks : {t : Tree Held} {p u : Tag} {upper up : Up} {pt : art.Point} → Reach σ t p u upper up pt → point-verdict pt ≡ some free → Lacks f σ pt ≡ Unmet (joins t u)
+  reach-lacks (held-leaf e em h) v = let z : _≡_ {A = ℕ} 0 1 = cc in absurd (omega arith)
+  reach-lacks (short-leaf y w e em) v = let z : _≡_ {A = ℕ} 0 1 = cc in absurd (omega arith)
+  reach-lacks (long-leaf x w e em) v = let z : _≡_ {A = ℕ} 0 1 = cc in absurd (omega arith)
+  reach-lacks (part-leaf c x i y j e e′ ne em h) v = refl
+  reach-lacks (same-run e em) v = let z : _≡_ {A = ℕ} 0 1 = cc in absurd (omega arith)
+  reach-lacks (short-run y w e em) v = let z : _≡_ {A = ℕ} 0 1 = cc in absurd (omega arith)
+  reach-lacks (part-run {k} {n} {run} {r} {p} {u} c x i y j e e′ ne em h w z ew) v = ap Unmet (sym (if-neg (begins-dec run u) (part-not-begins u run c x i y j e e′ ne) _ _))
+  reach-lacks (no-kid {k} {n} {run} {r} {p} {u} x w e em nh eh h) v =
+      ap (λ (m : ℕ). (childrenOf k ≤ m) × InnersFull f σ (suc k)) (ap (λ (c : Cell Held). length (cell-refs c)) h ∙ count-refs r)
+      ∙ ap Unmet (sym (joins-past k n run r u x w e ∙ at-none (some (k, count r)) (λ c t. joins t w) x r nh))
+  reach-lacks (a-kid {k} {n} {run} {r} {p} {u} x w e em i eh h hr kid b) v =
+      reach-lacks b v ∙ ap Unmet (sym (joins-past k n run r u x w e ∙ kid .picks (Option (ℕ × ℕ)) (some (k, count r)) (λ c t. joins t w)))
 
-pub lacking-is : (f : Frame) (t : Tree Held) → Good t → Once t [] → (tag : Tag) → Lacks f (store t []) (point (suc (height t)) (store t []) (root t) tag) ≡ Lacking f (some t) tag
-lacking-is f t g o tag =
-    lacks-unmet f (store t []) (point (suc (height t)) (store t []) (root t) tag)
-    ∙ ap (Unmet (InnersFull f (store t []))) (reach-want (seek-reaches (suc (height t)) (suc (height t)) (store t []) t g [] tag tag refl (store-shows t [] o) (omega arith) (omega arith) top top))
+pub lacking-is : (f : Frame) (t : Tree Held) → Good t → Once t [] → (tag : Tag) → judge tag (contents t) ≡ free → Lacks f (store t []) (point (suc (height t)) (store t []) (root t) tag) ≡ Lacking f (some t) tag
+lacking-is f t g o tag e =
+    let σ : Store Held = store t [] in
+    let shows = store-shows t [] o in
+    reach-lacks f σ (seek-reaches (suc (height t)) (suc (height t)) σ t g [] tag tag refl shows (omega arith) (omega arith) top top)
+    (point-judges (suc (height t)) σ t g shows (omega arith) tag ∙ ap some e)

@@ -2,18 +2,16 @@
 use Prim.Native.Nat.{ℕ, suc, _≤_}
 use mathlib.Core.Path.{_≡_}
 use mathlib.Core.Logic.{ite}
-use mathlib.Core.List.{[]}
+use mathlib.Core.List.{[], _∷_}
 use mathlib.Core.Option.{Option, none, some}
 use mathlib.Core.Bool.{true}
-use native.Mathlib.Decide.{ℕ-discrete}
-use lib.ListN.{length}
+use lib.ListN.{length, drop}
 use Rattle.frames.specs.Kind.{childrenOf}
 use Rattle.frames.specs.Place.{inPool}
 use Rattle.frames.specs.declared.frame.Frame.{Frame}
 use Rattle.records.specs.View.{Held}
-use Rattle.art.specs.Tags.{Tag}
+use Rattle.art.specs.Tags.{Tag, begins-dec}
 use Rattle.art.specs.Trees.{Tree, leaf, inner, Row, end, child, count}
-use Rattle.art.specs.Changes.{Meet, same, short, long, part, meet}
 use Rattle.art.specs.Verdicts.{Verdict, known, clash, free}
 use Rattle.art.specs.Stores.{leaf-place, inner-place, Store, store, Used}
 use Rattle.art.specs.Points as art
@@ -38,41 +36,22 @@ Lacks f σ (art.into up k n x) = (childrenOf k ≤ length (cell-refs (σ (inner-
 Lacks f σ (art.fork up y w d c) = InnersFull f σ 1
 Lacks f σ art.broken = ⊥
 
--- ── the same said of the tree ──
--- what a new tag wants: nothing where it is not new; a branching where it parts inside a run or at a leaf; or a further child of the branching that has none for its next byte
-pub data Want : Type 0 where
-  no-record : Want
-  a-branching : Want
-  a-child : (kind children : ℕ) → Want
-
--- by how its rest meets a run or a leaf's rest; past a run the next byte decides
-abbrev pub wantBy : {s t : Tag} → Meet s t → (ℕ → Tag → Want) → Want
-wantBy (same e) down = no-record
-wantBy (short y v e) down = no-record
-wantBy (long x u e) down = down x u
-wantBy (part c x u y v i j ne) down = a-branching
-
+-- ── the same said of the tree, for a tag that is neither held nor in a clash ──
 abbrev mutual
-  -- from the root down
-  pub wantIn : Tree Held → Tag → Want
-  wantIn (leaf n rest a) s = wantBy (meet s rest) (λ x u. no-record)
-  wantIn (inner k n run r) s = wantBy (meet s run) (λ x u. wantRow (a-child k (count r)) r x u)
+  -- the branching that has no child for the tag's next byte, by its kind and how many children it has; none where the tag parts inside a run or at a leaf, and wants a branching of its own
+  pub joins : Tree Held → Tag → Option (ℕ × ℕ)
+  joins (leaf n rest a) s = none
+  joins (inner k n run r) s = ite (begins-dec run s) (joinsRow (k, count r) r (drop (length run) s)) none
 
-  -- by the child for x; where there is none, that
-  pub wantRow : Want → Row Held → ℕ → Tag → Want
-  wantRow here end x u = here
-  wantRow here (child c t r) x u = ite (ℕ-discrete x c) (wantIn t u) (wantRow here r x u)
+  -- from the child for the next byte on; where there is none, this branching
+  pub joinsRow : ℕ × ℕ → Row Held → Tag → Option (ℕ × ℕ)
+  joinsRow here end s = some here
+  joinsRow here (child c t r) s = ite (begins-dec (c ∷ []) s) (joins t (drop 1 s)) (joinsRow here r s)
 
--- it can't be had: no record is free for a branching; or that branching is full, and no record of a larger kind is free. All from a kind on in use is given
-abbrev pub Unmet : (ℕ → Type 0) → Want → Type 0
-Unmet full no-record = ⊥
-Unmet full a-branching = full 1
-Unmet full (a-child k m) = (childrenOf k ≤ m) × full (suc k)
-
--- a new tag lacks a record; the first tag of all wants none
+-- no record is free for a branching of its own; or the one that it joins is full, and no record of a larger kind is free. The first tag of all wants no record
 abbrev pub Lacking : Frame → Option (Tree Held) → Tag → Type 0
 Lacking f none tag = ⊥
-Lacking f (some t) tag = Unmet (InnersFull f (store t [])) (wantIn t tag)
+Lacking f (some t) tag = elim (joins t tag) [ none ↦ InnersFull f (store t []) 1 | some b ↦ (childrenOf (b .0) ≤ b .1) × InnersFull f (store t []) (suc (b .0)) ]
 
 -- by the verdict on the tag, whether all leaves are in use, and whether a record lacks
 abbrev pub Answers : Verdict → Type 0 → Type 0 → Plan → Type 0
