@@ -50,28 +50,11 @@ pub record SmallSizes (z : Sizes) : Type 0 where
 -- eight words from a on
 abbrev pub eightFrom : List ℕ → ℕ → List ℕ
 eightFrom rec a =
-    getD rec a 0
-    ∷ getD rec (a + 1) 0
-    ∷ getD rec (a + 2) 0
-    ∷ getD rec (a + 3) 0
-    ∷ getD rec (a + 4) 0
-    ∷ getD rec (a + 5) 0
-    ∷ getD rec (a + 6) 0
-    ∷ getD rec (a + 7) 0
-    ∷ []
+    getD rec a 0 ∷ getD rec (a + 1) 0 ∷ getD rec (a + 2) 0 ∷ getD rec (a + 3) 0 ∷ getD rec (a + 4) 0 ∷ getD rec (a + 5) 0 ∷ getD rec (a + 6) 0 ∷ getD rec (a + 7) 0 ∷ []
 
 -- the eight bytes of two words, lowest first
 abbrev pub eightIn : ℕ → ℕ → List ℕ
-eightIn w v =
-    w % 256
-    ∷ w / 256 % 256
-    ∷ w / 65536 % 256
-    ∷ w / 16777216
-    ∷ v % 256
-    ∷ v / 256 % 256
-    ∷ v / 65536 % 256
-    ∷ v / 16777216
-    ∷ []
+eightIn w v = w % 256 ∷ w / 256 % 256 ∷ w / 65536 % 256 ∷ w / 16777216 ∷ v % 256 ∷ v / 256 % 256 ∷ v / 65536 % 256 ∷ v / 16777216 ∷ []
 
 -- four bytes as a word, lowest first
 abbrev pub wordOf : ℕ → ℕ → ℕ → ℕ → ℕ
@@ -79,10 +62,7 @@ wordOf a b c d = a % 256 + b % 256 * 256 + c % 256 * 65536 + d % 256 * 16777216
 
 -- eight bytes as two words
 abbrev pub packed : List ℕ → List ℕ
-packed l =
-    wordOf (getD l 0 0) (getD l 1 0) (getD l 2 0) (getD l 3 0)
-    ∷ wordOf (getD l 4 0) (getD l 5 0) (getD l 6 0) (getD l 7 0)
-    ∷ []
+packed l = wordOf (getD l 0 0) (getD l 1 0) (getD l 2 0) (getD l 3 0) ∷ wordOf (getD l 4 0) (getD l 5 0) (getD l 6 0) (getD l 7 0) ∷ []
 
 -- a form stores them one a word, or packed
 abbrev pub Stores : Form → Type 0

@@ -32,13 +32,11 @@ pub record SmallCaps (c : Caps) : Type 0 where
 -- the distances back to each pool that they give
 abbrev pub backsOf : Sizes → Caps → Backs
 backsOf z c =
-    record {
-      b1 = c .c1 * z .z1 + (c .c2 * z .z2 + (c .c3 * z .z3 + (c .c4 * z .z4 + c .c5 * z .z5)));
-      b2 = c .c2 * z .z2 + (c .c3 * z .z3 + (c .c4 * z .z4 + c .c5 * z .z5));
-      b3 = c .c3 * z .z3 + (c .c4 * z .z4 + c .c5 * z .z5);
-      b4 = c .c4 * z .z4 + c .c5 * z .z5;
-      b5 = c .c5 * z .z5;
-    }
+    let b5 = c .c5 * z .z5 in
+    let b4 = c .c4 * z .z4 + b5 in
+    let b3 = c .c3 * z .z3 + b4 in
+    let b2 = c .c2 * z .z2 + b3 in
+    record { b1 = c .c1 * z .z1 + b2; b2 = b2; b3 = b3; b4 = b4; b5 = b5 }
 
 -- the trailer's words 1 to 5 are these
 abbrev pub backsMatch : List ℕ → Backs → Bool
@@ -76,15 +74,10 @@ sizesList z = 0 ∷ z .z1 ∷ z .z2 ∷ z .z3 ∷ z .z4 ∷ z .z5 ∷ 0 ∷ 0 �
 -- by the same: the pool's first word
 abbrev pub startsList : Sizes → Caps → List ℕ
 startsList z c =
-    0
-    ∷ 0
-    ∷ (c .c1 * z .z1)
-    ∷ (c .c1 * z .z1 + c .c2 * z .z2)
-    ∷ (c .c1 * z .z1 + c .c2 * z .z2 + c .c3 * z .z3)
-    ∷ (c .c1 * z .z1 + c .c2 * z .z2 + c .c3 * z .z3 + c .c4 * z .z4)
-    ∷ 0
-    ∷ 0
-    ∷ []
+    let s2 = c .c1 * z .z1 in
+    let s3 = s2 + c .c2 * z .z2 in
+    let s4 = s3 + c .c3 * z .z3 in
+    0 ∷ 0 ∷ s2 ∷ s3 ∷ s4 ∷ (s4 + c .c4 * z .z4) ∷ 0 ∷ 0 ∷ []
 
 -- the frame that a form, sizes and capacities give
 abbrev pub frameWith : Form → Sizes → Caps → Frame
