@@ -3,7 +3,6 @@ use Prim.Native.Nat.{ℕ, _/_}
 use mathlib.Core.Path.{_≡_, refl, sym, ap, subst, _∙_}
 use mathlib.Core.Logic.{_≢_}
 use mathlib.Core.List.{List, [], _∷_}
-use mathlib.Core.Option.{some}
 use mathlib.Core.Bool.{Bool, true, false}
 use native.Mathlib.Omega.{arith}
 use lib.ListN.{length}
@@ -29,8 +28,9 @@ use Rattle.insert.proofs.Sounds.{insert-grown}
 use Rattle.insert.proofs.Overs.{over-altered}
 use Rattle.delete.specs.Delete as delete-call
 use Rattle.delete.proofs.Sounds.{delete-without}
-use Rattle.demands.specs.Calls.{Call, start, query, ask, edit, insert, delete, numberOf, run}
-use Rattle.demands.specs.Histories.{Block, Turn, lent, answered, next, after-all, CallBytes, AllBytes}
+use Rattle.demands.specs.Calls.{Call, start, query, ask, edit, insert, delete, run}
+use Rattle.demands.specs.Told.{number}
+use Rattle.demands.specs.Histories.{Block, Turn, lent, next, after-all, CallBytes, AllBytes}
 use Rattle.demands.specs.Frames.{NoStart}
 use Rattle.demands.proofs.Cases.{insert-cases, delete-cases}
 use Rattle.demands.proofs.Frames.{frame-kept, kept-frame}
@@ -136,6 +136,6 @@ module _ (b : Block) (form : ℕ) (c : Caps) (scratch : List ℕ) (done : startO
   ample-tight = last-kept .tight
 
   -- and no insert gives 5
-  pub ample-never-five : (tag : Tag) (total : ℕ) (more : List ℕ) → Bytes tag → numberOf (answered last (record { call = edit (insert tag total); scratch = more })) ≢ some 5
+  pub ample-never-five : (tag : Tag) (total : ℕ) (more : List ℕ) → Bytes tag → number (edit (insert tag total)) (lent last (record { call = edit (insert tag total); scratch = more })) ≢ 5
   ample-never-five tag total more tag-bytes =
       not-five (lent last (record { call = edit (insert tag total); scratch = more })) tag total tag-bytes (λ z. tight-never-lacks z tag tag-bytes ample-tight ample-frame)

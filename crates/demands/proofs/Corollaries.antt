@@ -17,7 +17,7 @@ use Rattle.art.specs.Drawings.{draw}
 use Rattle.art.specs.Deletes.{held, Sane}
 use Rattle.art.specs.Stores.{Used, root}
 use Rattle.art.specs.Calls.{OnceOf}
-use Rattle.art.proofs.ReadBack.{some-inj, shown-once}
+use Rattle.art.proofs.ReadBack.{shown-once}
 use Rattle.reading.specs.Answers.{Bytes}
 use Rattle.whole.specs.Sound.{Rooted, Sound}
 use Rattle.insert.specs.Answer as insert-answer
@@ -98,8 +98,8 @@ module _ {words keys : List ℕ} (s : Sound words keys) where
 
   does : (e : Edit) (scratch : List ℕ) → Bytes (tagOf e) → Bytes keys → Accepted (record { words = words; keys = keys }) e scratch
       → changeOf (edit e) (record { words = words; keys = keys; scratch = scratch }) ≡ effect e (lookup (tagOf e) holds)
-  does (insert tag total) scratch h k a = insert-does scratch tag total h k (some-inj a)
-  does (delete tag) scratch h k a = delete-does scratch tag (some-inj a)
+  does (insert tag total) scratch h k a = insert-does scratch tag total h k a
+  does (delete tag) scratch h k a = delete-does scratch tag a
 
 -- an accepted insert or delete leaves a sound block with what it makes of the listing
 pub edit-sound : (b : Block) (s : Sound (b .words) (b .keys)) → Bytes (b .keys) → (e : Edit) (scratch : List ℕ) → Bytes (tagOf e) → Accepted b e scratch

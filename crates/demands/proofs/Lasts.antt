@@ -23,7 +23,7 @@ use Rattle.demands.specs.Calls.{query, search, found, Edit, insert, dele
 use Rattle.demands.specs.Told.{Told, only, toldBy}
 use Rattle.demands.specs.Histories.{Block, Turn, lent, tagOf, totals, amended}
 use Rattle.demands.specs.Accepts.{turn, effect}
-use Rattle.demands.specs.Due.{holds}
+use Rattle.demands.specs.Listed.{holds}
 use Rattle.demands.specs.Listed.{finds}
 use Rattle.demands.specs.Ledger.{Ledger, ledger}
 use Rattle.demands.specs.Programs.{Program, seen, tells, nextBy, AcceptedBy}
@@ -141,12 +141,12 @@ pub insert-found : (b : Block) → Bytes (b .keys) → (t : Tag) (total : ℕ) �
 insert-found b k t total h q r a =
     let s = insert-was (b .words) (b .keys) q t total a in
     let l = totals (holds s) in
-    let z = edit-sound b s k (insert t total) q h (ap some a) in
+    let z = edit-sound b s k (insert t total) q h a in
     last-total (seen run) (demands .on-sound) (held-there (z .0)) t h r total (ap (lookup t) (z .1) ∙ insert-lookup t total l (lookup t l) refl)
 
 pub delete-unfound : (b : Block) → Bytes (b .keys) → (t : Tag) → Bytes t → (q r : List ℕ) → AcceptedBy (seen run) b (delete t) q
     → tells (seen run) (nextBy (seen run) b (turn (delete t) q)) (look t r) ≡ only 1
 delete-unfound b k t h q r a =
     let s = delete-was (b .words) (b .keys) q t a in
-    let z = edit-sound b s k (delete t) q h (ap some a) in
+    let z = edit-sound b s k (delete t) q h a in
     never-held (seen run) (demands .on-sound) (held-there (z .0)) t h r (ap (lookup t) (z .1) ∙ leave-unheld t (totals (holds s)))

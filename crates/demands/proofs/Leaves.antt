@@ -28,7 +28,7 @@ use Rattle.art.proofs.Stores.{leaf-inner}
 use Rattle.whole.specs.Sound.{Sound}
 use Rattle.whole.proofs.Sounds.{used-pool}
 use Rattle.insert.specs.Room.{LeavesFull}
-use Rattle.demands.specs.Due.{Full}
+use Rattle.demands.specs.Listed.{Full}
 use Rattle.demands.proofs.Sums.{sum, sum-off, sum-empty, sum-combined, sum-on}
 use Rattle.demands.proofs.Inner.{one, one-used}
 

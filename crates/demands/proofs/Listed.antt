@@ -4,7 +4,7 @@ use mathlib.Core.Path.{_≡_, refl, sym, ap, _∙_}
 use mathlib.Core.List.{List}
 use mathlib.Core.Option.{Option, none, some}
 use Rattle.records.specs.View.{Held}
-use Rattle.art.specs.Tags.{exact, begin}
+use Rattle.art.specs.Tags.{Tag, exact, begin}
 use Rattle.art.specs.Listings.{find, lookup}
 use Rattle.art.specs.Orders.{first-of, last-of, after}
 use Rattle.tree.specs.declared.answer.Found.{Found}
@@ -12,8 +12,12 @@ use Rattle.tree.specs.declared.answer.Facts.{Facts}
 use Rattle.leaves.specs.Leaf.{nextLeafOf, factsOf, tagOf}
 use Rattle.reading.specs.Answers.{answerOf}
 use Rattle.whole.specs.Sound.{Sound}
+use Rattle.whole.specs.Check.{checkOf}
 use Rattle.whole.specs.declared.check.Checked.{Checked}
-use Rattle.range.specs.Range.{afterIs, afterOf}
+use Rattle.whole.specs.declared.check.Checked.the-variants as checked
+use Rattle.pointed.proofs.Sounds.{sound-shown}
+use Rattle.insert.proofs.Afters.{after-shown}
+use Rattle.range.specs.Range.{afterIs, afterCheck, afterOf}
 use Rattle.range.specs.declared.After.{After}
 use Rattle.insert.specs.declared.answer.Inserted.{Inserted}
 use Rattle.delete.specs.Meets as delete-answers
@@ -23,12 +27,20 @@ use Rattle.demands.specs.Calls as calls
 use Rattle.demands.specs.Calls.{Call, Slices, run}
 use Rattle.demands.specs.Told.{Told, toldBy}
 use Rattle.demands.specs.Histories.{Block, Turn, lent, answered, CallBytes}
-use Rattle.demands.specs.Due.{holds}
-use Rattle.demands.specs.Listed.{Suffices, finds, takes, Listed}
-use Rattle.demands.proofs.Numbers.{after-meets}
+use Rattle.demands.specs.Tests.{Passed}
+use Rattle.demands.specs.Listed.{holds, Suffices, finds, takes, Listed}
 use Rattle.demands.proofs.Reading.{sound-reads}
 use Rattle.demands.proofs.Tested.{check-passed, insert-too-long}
 use Rattle.demands.proofs.Inserted.{inserts-listed}
+
+-- ── first at or after, past the check ──
+after-by : (s : Slices) (t : Tag) (c : Checked) → checkOf (s .words) (s .keys) (s .scratch) .result ≡ c → afterOf (s .words) (s .keys) (s .scratch) t .result ≡ afterCheck (s .words) (s .keys) t c
+unfolding afterOf
+after-by s t c e = ap (afterCheck (s .words) (s .keys) t) e
+
+-- on a sound block it answers as the sorted list
+pub after-meets : (s : Slices) (t : Tag) (p : Passed s) → afterOf (s .words) (s .keys) (s .scratch) t .result ≡ afterIs (after t (holds (p .sound)))
+after-meets s t p = after-by s t checked.Sound (check-passed s p) ∙ after-shown (sound-shown (p .sound)) t
 
 -- ── what an answer by the list tells ──
 found-told : (o : Option Held) → toldBy (calls.found (answerOf o)) ≡ finds o
@@ -52,7 +64,7 @@ facts a = toldBy (calls.facts a)
 abbrev tag : List ℕ → Told
 tag b = toldBy (calls.tag b)
 
-listed-by : (s : Slices) (z : Sound (s .words) (s .keys)) (c : Call) → CallBytes c → Suffices c s → Listed z c (toldBy (run c s .answer))
+pub listed-by : (s : Slices) (z : Sound (s .words) (s .keys)) (c : Call) → CallBytes c → Suffices c s → Listed z c (toldBy (run c s .answer))
 unfolding afterOf
 listed-by s z (calls.start form c) b r = tt
 listed-by s z (calls.query (calls.search t)) b r = ap found (sound-reads z .search t b) ∙ found-told (find exact t (holds z))

@@ -3,7 +3,6 @@ use Prim.Native.Nat.{ℕ}
 use mathlib.Core.Path.{_≡_, refl, sym, ap, _∙_}
 use mathlib.Core.Logic.{_≢_}
 use mathlib.Core.List.{List}
-use mathlib.Core.Option.{some}
 use mathlib.Core.Bool.{Bool, true, false, not, _&&_}
 use lib.ListN.{length}
 use lib.Dec.{leb, ltb}
@@ -12,7 +11,6 @@ use Rattle.lists.specs.Scan.{choose}
 use Rattle.frames.specs.Frame.{frameFits, frame}
 use Rattle.frames.specs.declared.frame.Caps.{Caps}
 use Rattle.frames.specs.declared.frame.Frame.{Frame}
-use Rattle.art.proofs.ReadBack.{some-inj}
 use Rattle.pools.specs.Start as start-call
 use Rattle.pools.specs.Start.{startFitsIn, startOf}
 use Rattle.whole.specs.Marks.{placesIn}
@@ -34,7 +32,8 @@ use Rattle.delete.specs.Plan as delete-plan
 use Rattle.delete.specs.declared.plan.Plan as delete-plans
 use Rattle.delete.specs.declared.plan.Plan.the-variants as gone
 use Rattle.demands.specs.Calls.{Call, start, query, ask, edit, insert, delete}
-use Rattle.demands.specs.Calls.{Slices, run, number}
+use Rattle.demands.specs.Calls.{Slices, run}
+use Rattle.demands.specs.Told.{number}
 use Rattle.demands.specs.Scratch.{enough, leftIn}
 use Rattle.demands.proofs.Cases.{either, insert-cases, delete-cases}
 
@@ -91,12 +90,12 @@ module _ (words keys tag : List ℕ) where
 
 -- ── all calls ──
 -- a refusal changes no word and no key byte, whatever the memory holds
-pub refused-same : (c : Call) (s : Slices) (n : ℕ) → number c s ≡ some n → n ≢ 0 → (run c s .slices .words ≡ s .words) × (run c s .slices .keys ≡ s .keys)
-refused-same (start form c) s n e h = start-kept (s .words) (s .keys) form c (λ z. h (sym (some-inj e) ∙ z))
-refused-same (query q) s n e h = (refl, refl)
-refused-same (ask a) s n e h = (refl, refl)
-refused-same (edit (insert t total)) s n e h = insert-kept (s .words) (s .keys) (s .scratch) t total (λ z. h (sym (some-inj e) ∙ z))
-refused-same (edit (delete t)) s n e h = delete-kept (s .words) (s .keys) (s .scratch) t (λ z. h (sym (some-inj e) ∙ z))
+pub refused-same : (c : Call) (s : Slices) → number c s ≢ 0 → (run c s .slices .words ≡ s .words) × (run c s .slices .keys ≡ s .keys)
+refused-same (start form c) s h = start-kept (s .words) (s .keys) form c h
+refused-same (query q) s h = (refl, refl)
+refused-same (ask a) s h = (refl, refl)
+refused-same (edit (insert t total)) s h = insert-kept (s .words) (s .keys) (s .scratch) t total h
+refused-same (edit (delete t)) s h = delete-kept (s .words) (s .keys) (s .scratch) t h
 
 -- ── scratch ──
 check-scratch : (s : Slices) → checkOf (s .words) (s .keys) (s .scratch) .scratch ≡ choose (enough s) (cleared (placesIn (frame (s .words))) (s .scratch)) (s .scratch)

@@ -24,7 +24,8 @@ use Rattle.delete.specs.Delete as delete-call
 use Rattle.delete.specs.Delete.{deleteOf, deleteChecked, deleteSound, deleteBy}
 use Rattle.delete.specs.Plan as delete-plan
 use Rattle.demands.specs.Calls.{Slices}
-use Rattle.demands.specs.Due.{Unframed, Short, Unsound, Passed, Allowed}
+use Rattle.demands.specs.Due.{Unframed}
+use Rattle.demands.specs.Tests.{Short, Unsound, Passed}
 
 -- one of the four holds
 pub data Tests (s : Slices) : Type 0 where
@@ -93,7 +94,7 @@ module _ (s : Slices) where
         ap (λ (b : Bool). choose b (insert-call.out inserted.TooLong (s .words) (s .keys) (s .scratch)) (insertChecked (s .words) (s .keys) t total (checkOf (s .words) (s .keys) (s .scratch))) .answer)
         h
 
-    pub insert-by : Allowed t s → (c : Checked) → checkOf (s .words) (s .keys) (s .scratch) .result ≡ c
+    pub insert-by : tooLong (s .words) (s .keys) t ≡ false → (c : Checked) → checkOf (s .words) (s .keys) (s .scratch) .result ≡ c
         → insertOf (s .words) (s .keys) (s .scratch) t total .answer ≡ insertBy (s .words) (s .keys) after t total c .answer
     unfolding insertOf insertChecked
     insert-by h c e =
@@ -101,7 +102,7 @@ module _ (s : Slices) where
         h
         ∙ ap (λ (c : Checked). insertBy (s .words) (s .keys) after t total c .answer) e
 
-    pub insert-passed : Allowed t s → Passed s → (q : Plan) → insert-plan.planOf (frame (s .words)) (s .words) (s .keys) t ≡ q
+    pub insert-passed : tooLong (s .words) (s .keys) t ≡ false → Passed s → (q : Plan) → insert-plan.planOf (frame (s .words)) (s .words) (s .keys) t ≡ q
         → insertOf (s .words) (s .keys) (s .scratch) t total .answer ≡ insert-call.planned (frame (s .words)) (s .words) (s .keys) after t total q .answer
     unfolding insertSound
     insert-passed h p q e =

@@ -3,7 +3,6 @@ use Prim.Native.Nat.{ℕ, zero, suc, _+_, _-_, _*_, _≤_, _<_}
 use mathlib.Core.Path.{_≡_, refl, sym, ap, _∙_}
 use mathlib.Core.Logic.{_≢_}
 use mathlib.Core.List.{List, []}
-use mathlib.Core.Option.{Option, some}
 use mathlib.Core.Bool.{Bool, true, false}
 use native.Mathlib.Decide.{decLe}
 use native.Mathlib.Omega.{arith}
@@ -14,7 +13,6 @@ use Rattle.frames.specs.Frame.{FrameOf, frameFits, frame}
 use Rattle.frames.specs.Place.{recordAt, keyAt}
 use Rattle.frames.specs.declared.frame.Frame.{Frame}
 use Rattle.art.specs.Stores.{leaf-place}
-use Rattle.art.proofs.ReadBack.{some-inj}
 use Rattle.pools.specs.declared.start.Started.the-variants as started
 use Rattle.tree.specs.Answer.{factsLength}
 use Rattle.tree.specs.declared.answer.Found.the-variants as found
@@ -29,21 +27,21 @@ use Rattle.range.specs.declared.After.the-variants as after
 use Rattle.insert.specs.declared.answer.Inserted.the-variants as inserted
 use Rattle.delete.specs.declared.answer.Deleted.the-variants as deleted
 use Rattle.demands.specs.Calls as calls
-use Rattle.demands.specs.Calls.{Call, query, leaf-facts, leaf-tag, Slices, Answer, numberOf, run, number}
-use Rattle.demands.specs.Told.{Told, only, withTag, toldBy}
+use Rattle.demands.specs.Calls.{Call, query, leaf-facts, leaf-tag, Slices, Answer, run}
+use Rattle.demands.specs.Told.{Told, only, withTag, toldBy, number}
 
 -- ── a refusal ──
 -- where the number is not 0, nothing else is told
-abbrev Bare : Option ℕ → Told → Type 0
-Bare o t = (n : ℕ) → o ≡ some n → n ≢ 0 → t ≡ only n
+abbrev Bare : Told → Type 0
+Bare t = t .number ≢ 0 → t ≡ only (t .number)
 
-done : {t : Told} → Bare (some 0) t
-done n e h = absurd (h (sym (some-inj e)))
+done : {X : Type 0} → _≢_ {A = ℕ} 0 0 → X
+done h = absurd (h refl)
 
-refused : (m : ℕ) → Bare (some m) (only m)
-refused m n e h = ap only (some-inj e)
+refused : (m : ℕ) → Bare (only m)
+refused m h = refl
 
-bare : (a : Answer) → Bare (numberOf a) (toldBy a)
+bare : (a : Answer) → Bare (toldBy a)
 bare (calls.started started.Done) = done
 bare (calls.started started.Refused) = refused 8
 bare (calls.found (found.Leaf n total)) = done
@@ -53,7 +51,7 @@ bare (calls.found found.NoLeaf) = refused 9
 bare (calls.facts (facts.Leaf len total)) = done
 bare (calls.facts facts.Damaged) = refused 6
 bare (calls.facts facts.NoLeaf) = refused 9
-bare (calls.tag t) = λ n e h. let z : _≡_ {A = ℕ} 0 1 = cc in absurd (omega arith)
+bare (calls.tag t) = done
 bare (calls.checked checked.Sound) = done
 bare (calls.checked checked.Damaged) = refused 6
 bare (calls.checked checked.ShortScratch) = refused 7
@@ -75,7 +73,7 @@ bare (calls.deleted deleted.Damaged) = refused 6
 bare (calls.deleted deleted.ShortScratch) = refused 7
 
 -- a refused call tells its number, a leaf number, length and total of 0, and an empty tag, whatever the memory holds
-pub refused-told : (c : Call) (s : Slices) (n : ℕ) → number c s ≡ some n → n ≢ 0 → toldBy (run c s .answer) ≡ only n
+pub refused-told : (c : Call) (s : Slices) → number c s ≢ 0 → toldBy (run c s .answer) ≡ only (number c s)
 refused-told c s = bare (run c s .answer)
 
 -- ── a leaf's length ──

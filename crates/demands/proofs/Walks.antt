@@ -17,9 +17,10 @@ use Rattle.reading.specs.Listing.{listFrom}
 use Rattle.reading.specs.Calls.{Reads}
 use Rattle.range.specs.Range.{afterIs, afterOf}
 use Rattle.demands.specs.Calls.{Slices}
-use Rattle.demands.specs.Due.{Passed, holds}
+use Rattle.demands.specs.Tests.{Passed}
+use Rattle.demands.specs.Listed.{holds}
 use Rattle.demands.proofs.Reading.{sound-reads}
-use Rattle.demands.proofs.Numbers.{after-meets}
+use Rattle.demands.proofs.Listed.{after-meets}
 use Rattle.demands.specs.Later.{later, foundIs}
 
 module _ {A : Type 0} where

@@ -2,9 +2,10 @@
 use Prim.Native.Nat.{ℕ, zero, suc, _+_}
 use mathlib.Core.Path.{_≡_, refl, ap, _∙_}
 use mathlib.Core.Logic.{_≢_}
-use mathlib.Core.List.{List}
+use mathlib.Core.List.{List, [], _∷_}
 use mathlib.Core.Bool.{Bool, true, false, _&&_}
 use native.Mathlib.Omega.{arith}
+use lib.ListN.{getD}
 use lib.Dec.{eqb}
 use borrow.Author.Tests.{lt-ltb, eq-eqb, ne-eqb, eqb-true, eqb-false}
 use Rattle.lists.specs.Scan.{choose}
@@ -12,16 +13,19 @@ use Rattle.prefix.specs.declared.lookup.PrefixMatchBehavior.{PrefixMatchBehavio
 use Rattle.prefix.specs.declared.lookup.PrefixMatchBehavior.the-variants.{Pessimistic}
 use Rattle.prefix.specs.declared.lookup.PrefixMatch.{PrefixMatch}
 use Rattle.prefix.specs.declared.lookup.PrefixMatch.the-variants.{On, Off}
-use Rattle.frames.specs.Frame.{rootWord}
+use Rattle.frames.specs.Frame.{rootWord, FrameOf}
 use Rattle.frames.specs.Place.{placeAt, inPool, startAt, recordAt, keyAt}
 use Rattle.frames.specs.declared.frame.Frame.{Frame}
+use Rattle.records.specs.Own.{childAt}
+use Rattle.records.specs.Row.{rowAt, lastEntry}
 use Rattle.records.specs.View.{ruleAt}
+use Rattle.records.proofs.RowRules.{row-rule}
 use Rattle.art.specs.Tags.{Tag}
 use Rattle.art.specs.Stores.{Place, leaf-place, inner-place}
 use Rattle.tree.specs.Answer.{foundNumber, leafFound}
 use Rattle.tree.specs.Arrive.{onPath, arrived, arrivalAt}
-use Rattle.tree.specs.Walk.{leafFits, leafAnswer, afterMatch, innerStep, stepFrom, stepOf, endedOf, walkOf}
-use Rattle.tree.specs.Edge.{edgeRef, edgeFrom, edgeStep, edgeEnded, edgeOf}
+use Rattle.tree.specs.Walk.{leafFits, leafAnswer, childStep, afterMatch, innerStep, stepFrom, stepOf, endedOf, walkOf}
+use Rattle.tree.specs.Edge.{entryRef, edgeEntry, edgeRef, edgeFrom, edgeStep, edgeEnded, edgeOf}
 use Rattle.tree.specs.declared.answer.Found.{Found}
 use Rattle.tree.specs.declared.answer.Found.the-variants as found
 use Rattle.tree.specs.declared.arrive.Arrival.{Arrival}
@@ -30,10 +34,13 @@ use Rattle.tree.specs.declared.lookup.Aim.{Aim}
 use Rattle.tree.specs.declared.lookup.Step.{Step}
 use Rattle.tree.specs.declared.lookup.Step.the-variants as lookup
 use Rattle.tree.specs.declared.minmax.Edge.{Edge}
+use Rattle.tree.specs.declared.minmax.Edge.the-variants.{Low, High}
 use Rattle.tree.specs.declared.minmax.EdgeStep.{EdgeStep}
 use Rattle.tree.specs.declared.minmax.EdgeStep.the-variants as edges
+use Rattle.tree.proofs.Arrivals.{inner-stands}
+use Rattle.reading.specs.Answers.{Bytes}
 use Rattle.demands.specs.Way as way
-use Rattle.demands.specs.Way.{Breaks, outside, own-rule, none-left, Stands, matched, childFor, Comes, Gives, Descends, Ends}
+use Rattle.demands.specs.Way.{Breaks, outside, own-rule, none-left, Stands, matched, childFor, Comes, Gives, endRef, Descends, Ends}
 
 -- from the root, or 1 where there is none
 abbrev rooted : List ℕ → Found → ℕ
@@ -44,6 +51,17 @@ no-root-number words a e = ap (λ (b : Bool). foundNumber (choose b found.Missin
 
 root-number : (words : List ℕ) (a a′ : Found) → rootWord words ≢ 0 → a ≡ a′ → rooted words a ≡ foundNumber a′
 root-number words a a′ ne e = ap (λ (b : Bool). foundNumber (choose b found.Missing a)) (ne-eqb (rootWord words) 0 ne) ∙ ap foundNumber e
+
+-- the first or the last of a row, as an entry and as its reference
+last-is : (r : ℕ) (row : List (ℕ × ℕ)) (e : ℕ × ℕ) → entryRef (lastEntry (e ∷ row)) ≡ endRef High r (e ∷ row)
+last-is r [] e = refl
+last-is r (n ∷ row) e = last-is (e .1) row n
+
+end-is : (edge : Edge) (row : List (ℕ × ℕ)) → entryRef (edgeEntry edge row) ≡ endRef edge 0 row
+end-is Low [] = refl
+end-is Low (e ∷ row) = refl
+end-is High [] = refl
+end-is High (e ∷ row) = last-is 0 row e
 
 module _ (f : Frame) (words keys : List ℕ) where
   -- ── arriving ──
@@ -112,13 +130,6 @@ module _ (f : Frame) (words keys : List ℕ) where
     unfolding innerStep
     inner-step left k n depth b s = ap (stepFrom f words keys t aim depth b) (at-inner left k n s)
 
-    child-step : (left k n depth d : ℕ) (b b′ : PrefixMatchBehavior) → Stands f words keys (inner-place k n) → matched f words t k n depth b ≡ On d b′
-        → (z : Bool) → eqb (childFor f words t k n d) 0 ≡ z
-        → stepAt (suc left) (inner-place k n) depth b ≡ choose z (lookup.Final found.Missing) (lookup.Next (childFor f words t k n d) (d + 1) b′)
-    child-step left k n depth d b b′ s m z e =
-        inner-step left k n depth b s ∙ ap (afterMatch (f .form) k (recordAt f words (inner-place k n)) t) m
-        ∙ ap (λ (z : Bool). choose z (lookup.Final found.Missing) (lookup.Next (childFor f words t k n d) (d + 1) b′)) e
-
     leaf-step : (left n depth : ℕ) (b : PrefixMatchBehavior) → Stands f words keys (leaf-place n)
         → (z : Bool) → leafFits (recordAt f words (leaf-place n)) (keyAt f keys n) t aim depth b ≡ z
         → stepAt left (leaf-place n) depth b ≡ lookup.Final (choose z (leafFound n (recordAt f words (leaf-place n))) found.Missing)
@@ -130,33 +141,47 @@ module _ (f : Frame) (words keys : List ℕ) where
     abbrev walk : Found
     walk = walkOf f words keys t aim (f .form .limit) (rootWord words) 0 Pessimistic
 
-    -- from the root is from where it comes to
-    comes-walk : {left depth : ℕ} {x : Place} {b : PrefixMatchBehavior} → Comes f words keys t left x depth b → walk ≡ walkAt left x depth b
-    unfolding walkAt
-    comes-walk (way.at-root ne) = walk-at (f .form .limit) (rootWord words) 0 Pessimistic
-    comes-walk (way.down {left} {k} {n} {depth} {d} {b} {b′} c s m ne) =
-        comes-walk c ∙ ap (taken left) (child-step left k n depth d b b′ s m false (ne-eqb (childFor f words t k n d) 0 ne))
-        ∙ walk-at left (childFor f words t k n d) (d + 1) b′
-
     has-root : {left depth : ℕ} {x : Place} {b : PrefixMatchBehavior} → Comes f words keys t left x depth b → rootWord words ≢ 0
     has-root (way.at-root ne) = ne
     has-root (way.down c s m ne) = has-root c
 
-    -- where it stops there
-    stopped : (left : ℕ) (x : Place) (depth : ℕ) (b : PrefixMatchBehavior) (a : Found) → Comes f words keys t left x depth b → stepAt left x depth b ≡ lookup.Final a
-        → rooted words walk ≡ foundNumber a
-    stopped left x depth b a c e = root-number words walk a (has-root c) (comes-walk c ∙ stops left x depth b a e)
+    -- on a frame that fits, by a tag of bytes
+    module _ (w : FrameOf f words keys) (bytes : Bytes t) where
+      -- the child for a byte of a record that stands is its row's
+      child-is : (k n d : ℕ) → Stands f words keys (inner-place k n) → childAt (f .form) k (recordAt f words (inner-place k n)) (getD t d 0) ≡ childFor f words t k n d
+      child-is k n d s = row-rule (inner-stands w (inner-place k n) k n (startAt f (inner-place k n)) refl refl (s .pool) (s .rule) .fits) .child-for (getD t d 0) (bytes d)
 
-    pub meets-number : {n : ℕ} → Gives f words keys t aim n → rooted words walk ≡ n
-    meets-number (way.no-root e) = no-root-number words walk e
-    meets-number (way.damage {left} {depth} {x} {b} c h) = stopped left x depth b found.Damaged c (ap (stepFrom f words keys t aim depth b) (broken h))
-    meets-number (way.off-prefix {left} {k} {n} {depth} {agreed} {b} c s m) =
-        stopped (suc left) (inner-place k n) depth b found.Missing c (inner-step left k n depth b s ∙ ap (afterMatch (f .form) k (recordAt f words (inner-place k n)) t) m)
-    meets-number (way.no-child {left} {k} {n} {depth} {d} {b} {b′} c s m e) =
-        stopped (suc left) (inner-place k n) depth b found.Missing c (child-step left k n depth d b b′ s m true (eq-eqb (childFor f words t k n d) 0 e))
-    meets-number (way.other-leaf {left} {n} {depth} {b} c s e) = stopped left (leaf-place n) depth b found.Missing c (leaf-step left n depth b s false e)
-    meets-number (way.the-leaf {left} {n} {depth} {b} c s e) =
-        stopped left (leaf-place n) depth b (leafFound n (recordAt f words (leaf-place n))) c (leaf-step left n depth b s true e)
+      child-step : (left k n depth d : ℕ) (b b′ : PrefixMatchBehavior) → Stands f words keys (inner-place k n) → matched f words t k n depth b ≡ On d b′
+          → (z : Bool) → eqb (childFor f words t k n d) 0 ≡ z
+          → stepAt (suc left) (inner-place k n) depth b ≡ choose z (lookup.Final found.Missing) (lookup.Next (childFor f words t k n d) (d + 1) b′)
+      child-step left k n depth d b b′ s m z e =
+          inner-step left k n depth b s ∙ ap (afterMatch (f .form) k (recordAt f words (inner-place k n)) t) m
+          ∙ ap (λ (r : ℕ). childStep r (d + 1) b′) (child-is k n d s)
+          ∙ ap (λ (z : Bool). choose z (lookup.Final found.Missing) (lookup.Next (childFor f words t k n d) (d + 1) b′)) e
+
+      -- from the root is from where it comes to
+      comes-walk : {left depth : ℕ} {x : Place} {b : PrefixMatchBehavior} → Comes f words keys t left x depth b → walk ≡ walkAt left x depth b
+      unfolding walkAt
+      comes-walk (way.at-root ne) = walk-at (f .form .limit) (rootWord words) 0 Pessimistic
+      comes-walk (way.down {left} {k} {n} {depth} {d} {b} {b′} c s m ne) =
+          comes-walk c ∙ ap (taken left) (child-step left k n depth d b b′ s m false (ne-eqb (childFor f words t k n d) 0 ne))
+          ∙ walk-at left (childFor f words t k n d) (d + 1) b′
+
+      -- where it stops there
+      stopped : (left : ℕ) (x : Place) (depth : ℕ) (b : PrefixMatchBehavior) (a : Found) → Comes f words keys t left x depth b → stepAt left x depth b ≡ lookup.Final a
+          → rooted words walk ≡ foundNumber a
+      stopped left x depth b a c e = root-number words walk a (has-root c) (comes-walk c ∙ stops left x depth b a e)
+
+      pub meets-number : {n : ℕ} → Gives f words keys t aim n → rooted words walk ≡ n
+      meets-number (way.no-root e) = no-root-number words walk e
+      meets-number (way.damage {left} {depth} {x} {b} c h) = stopped left x depth b found.Damaged c (ap (stepFrom f words keys t aim depth b) (broken h))
+      meets-number (way.off-prefix {left} {k} {n} {depth} {agreed} {b} c s m) =
+          stopped (suc left) (inner-place k n) depth b found.Missing c (inner-step left k n depth b s ∙ ap (afterMatch (f .form) k (recordAt f words (inner-place k n)) t) m)
+      meets-number (way.no-child {left} {k} {n} {depth} {d} {b} {b′} c s m e) =
+          stopped (suc left) (inner-place k n) depth b found.Missing c (child-step left k n depth d b b′ s m true (eq-eqb (childFor f words t k n d) 0 e))
+      meets-number (way.other-leaf {left} {n} {depth} {b} c s e) = stopped left (leaf-place n) depth b found.Missing c (leaf-step left n depth b s false e)
+      meets-number (way.the-leaf {left} {n} {depth} {b} c s e) =
+          stopped left (leaf-place n) depth b (leafFound n (recordAt f words (leaf-place n))) c (leaf-step left n depth b s true e)
 
     -- ── it always meets something ──
     abbrev Met : Type 0
@@ -228,11 +253,12 @@ module _ (f : Frame) (words keys : List ℕ) where
     descent = edgeOf f words keys edge (f .form .limit) (rootWord words)
 
     descends-walk : {left : ℕ} {x : Place} → Descends f words keys edge left x → descent ≡ edgeAt left x
-    unfolding edgeAt
+    unfolding edgeAt edgeRef
     descends-walk (way.root ne) = edge-at (f .form .limit) (rootWord words)
     descends-walk (way.child {left} {k} {n} c s) =
         descends-walk c ∙ ap (λ (a : Arrival). edgeTaken left (edgeFrom f words edge a)) (at-inner left k n s)
-        ∙ edge-at left (edgeRef edge (f .form) k (recordAt f words (inner-place k n)))
+        ∙ ap (edgeOf f words keys edge left) (end-is edge (rowAt (f .form) k (recordAt f words (inner-place k n))))
+        ∙ edge-at left (endRef edge 0 (rowAt (f .form) k (recordAt f words (inner-place k n))))
 
     edge-root : {left : ℕ} {x : Place} → Descends f words keys edge left x → rootWord words ≢ 0
     edge-root (way.root ne) = ne
@@ -260,7 +286,7 @@ module _ (f : Frame) (words keys : List ℕ) where
     next-end : (left : ℕ) → ((x : Place) → Descends f words keys edge left x → Ended) → (x : Place) → Descends f words keys edge (suc left) x → Ended
     next-end left go (leaf-place n) c = leaf-end (suc left) n c
     next-end left go (inner-place k n) c =
-        met-or-stands (suc left) (inner-place k n) (λ h. (6, way.broken-off c h)) (λ s. go (placeAt (edgeRef edge (f .form) k (recordAt f words (inner-place k n)))) (way.child c s))
+        met-or-stands (suc left) (inner-place k n) (λ h. (6, way.broken-off c h)) (λ s. go (placeAt (endRef edge 0 (rowAt (f .form) k (recordAt f words (inner-place k n))))) (way.child c s))
 
     from-ended : (left : ℕ) (x : Place) → Descends f words keys edge left x → Ended
     from-ended zero x c = last-end x c

@@ -5,8 +5,9 @@ use mathlib.Core.List.{List}
 use mathlib.Core.Option.{Option, none, some}
 use Rattle.art.specs.Tags.{Listing}
 use Rattle.art.specs.Listings.{lookup}
-use Rattle.demands.specs.Calls.{Edit, insert, delete, edit, numberOf}
-use Rattle.demands.specs.Histories.{Block, Turn, answered, tagOf, Change, puts, alters, leaves, amended}
+use Rattle.demands.specs.Calls.{Edit, insert, delete, edit}
+use Rattle.demands.specs.Told.{number}
+use Rattle.demands.specs.Histories.{Block, Turn, lent, tagOf, Change, puts, alters, leaves, amended}
 
 -- with the scratch that is lent
 abbrev pub turn : Edit → List ℕ → Turn
@@ -14,7 +15,7 @@ turn e scratch = record { call = edit e; scratch = scratch }
 
 -- its number is 0
 abbrev pub Accepted : Block → Edit → List ℕ → Type 0
-Accepted b e scratch = numberOf (answered b (turn e scratch)) ≡ some 0
+Accepted b e scratch = number (edit e) (lent b (turn e scratch)) ≡ 0
 
 -- a tag that is not held is put in, a held one gets the new total, a deleted one is left out
 abbrev pub effect : Edit → Option ℕ → Change

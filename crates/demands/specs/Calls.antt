@@ -2,12 +2,10 @@
 use Prim.Native.Nat.{ℕ}
 use mathlib.Core.Path.{_≡_}
 use mathlib.Core.List.{List}
-use mathlib.Core.Option.{Option, none, some}
 use mathlib.Core.Bool.{Bool, true, false, not}
 use Rattle.frames.specs.declared.frame.Caps.{Caps}
 use Rattle.pools.specs.Start as start-call
 use Rattle.pools.specs.declared.start.Started.{Started}
-use Rattle.tree.specs.Answer.{foundNumber, factsNumber}
 use Rattle.tree.specs.Walk.{searchOf, prefixSearchOf}
 use Rattle.tree.specs.Edge.{minimumOf, maximumOf}
 use Rattle.leaves.specs.Leaf.{nextLeafOf, factsOf, tagOf}
@@ -68,17 +66,6 @@ pub data Answer : Type 0 where
   inserted : Inserted → Answer
   deleted : Deleted → Answer
 
--- the number given back; the call that gives a tag gives no number
-abbrev pub numberOf : Answer → Option ℕ
-numberOf (started a) = some (start-call.startNumber a)
-numberOf (found a) = some (foundNumber a)
-numberOf (facts a) = some (factsNumber a)
-numberOf (tag t) = none
-numberOf (checked a) = some (check-call.numberOf a)
-numberOf (after a) = some (after-call.numberOf a)
-numberOf (inserted a) = some (insert-answer.numberOf a)
-numberOf (deleted a) = some (delete-answer.numberOf a)
-
 -- an answer, and the slices at exit
 pub record Outcome : Type 0 where
   pub answer : Answer
@@ -128,10 +115,6 @@ checks (query q) s = false
 checks (ask a) s = true
 checks (edit (insert t total)) s = not (insert-call.tooLong (s .words) (s .keys) t)
 checks (edit (delete t)) s = true
-
--- the number that a call gives back
-abbrev pub number : Call → Slices → Option ℕ
-number c s = numberOf (run c s .answer)
 
 -- ── what the contracts promise, each the equation of its `ensures` ──
 -- the answer and the slices that the call may change solve its equation; the other slices are as they were lent

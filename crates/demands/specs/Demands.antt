@@ -5,29 +5,30 @@ use mathlib.Core.Logic.{_≢_}
 use mathlib.Core.List.{List}
 use mathlib.Core.Option.{none}
 use Rattle.lists.specs.Part.{between}
-use Rattle.frames.specs.Frame.{frame, countWord}
+use Rattle.frames.specs.Frame.{frame, frameFits, countWord}
+use Rattle.frames.specs.declared.frame.Caps.{Caps}
 use Rattle.art.specs.Tags.{Tag}
 use Rattle.art.specs.Listings.{lookup}
 use Rattle.art.specs.Drawings.{draw}
 use Rattle.art.specs.Facts.{branchings}
 use Rattle.reading.specs.Answers.{Bytes}
 use Rattle.whole.specs.Sound.{Sound}
-use Rattle.demands.specs.Calls.{Query, Asked, Call, query, ask, leaf-facts, leaf-tag, Edit, insert, delete, Slices}
+use Rattle.demands.specs.Calls.{Query, Asked, Call, start, query, ask, leaf-facts, leaf-tag, Edit, insert, delete, Slices}
 use Rattle.demands.specs.Told.{only, withTag}
 use Rattle.demands.specs.Histories.{Block, tagOf, totals, CallBytes}
-use Rattle.demands.specs.Frames.{FrameKept, NoStart}
 use Rattle.demands.specs.Scratch.{leftIn}
 use Rattle.demands.specs.Drawn.{drawingOf, usedInner}
 use Rattle.demands.specs.Accepts.{turn}
-use Rattle.demands.specs.Due.{Due, holds}
+use Rattle.demands.specs.Due.{Due}
+use Rattle.demands.specs.Listed.{holds}
 use Rattle.demands.specs.Listed.{Suffices, Listed}
 use Rattle.demands.specs.Ledger.{Ledger}
 use Rattle.demands.specs.Programs.{Program, numberBy, nextBy, AcceptedBy, Always}
 
 -- ── the first demand: any memory, any tag ──
--- bad input gets the number that the table has for it: a row that holds is given, and what is given is a row that holds; the call that gives a tag has no row
+-- bad input gets the number that the table has for it: a row that holds is given, and what is given is a row that holds
 abbrev pub Numbers : Program → Type 0
-Numbers p = (c : Call) → CallBytes c → (s : Slices) → ((n : ℕ) → Due c s n → numberBy p c s ≡ n) × (((m : ℕ) → c ≢ query (leaf-tag m)) → Due c s (numberBy p c s))
+Numbers p = (c : Call) → CallBytes c → (s : Slices) → ((n : ℕ) → Due c s n → numberBy p c s ≡ n) × Due c s (numberBy p c s)
 
 -- a refused call tells nothing but its number
 abbrev pub Bare : Program → Type 0
@@ -47,9 +48,10 @@ Still p = (s : Slices)
 abbrev pub Scratched : Program → Type 0
 Scratched p = (c : Call) (s : Slices) → p c s .slices .scratch ≡ leftIn c s
 
--- no call but start changes the frame
+-- no call but start changes the frame that the trailer gives, nor whether it fits
 abbrev pub Framed : Program → Type 0
-Framed p = (c : Call) → NoStart c → CallBytes c → (s : Slices) → Bytes (s .keys) → FrameKept (s .words) (s .keys) (p c s .slices .words) (p c s .slices .keys)
+Framed p = (c : Call) → ((form : ℕ) (k : Caps) → c ≢ start form k) → CallBytes c → (s : Slices) → Bytes (s .keys) → let o = p c s .slices in
+    (frame (o .words) ≡ frame (s .words)) × (frameFits (o .words) (o .keys) ≡ frameFits (s .words) (s .keys))
 
 -- a leaf's tag is that part of the lent key bytes, from its own first one on and as long as the leaf's facts say: empty where they are refused
 abbrev pub Tagged : Program → Type 0

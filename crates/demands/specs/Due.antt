@@ -1,36 +1,32 @@
--- The numbers given back, a table by class of call, then by call: each row has its condition, and that none earlier applies. The call that gives a tag gives no number.
--- What the searches and the two ends give on a sound block is also what the list has (`Listed`).
-use Prim.Native.Nat.{ℕ, _≤_, _<_}
+-- The numbers given back, a table by class of call, then by call: each row has its condition, and that none earlier applies. What a call tells on a sound
+-- block, past the whole check, is in `Listed`.
+use Prim.Native.Nat.{ℕ, _≤_}
 use mathlib.Core.Path.{_≡_}
 use mathlib.Core.Logic.{_≢_}
 use mathlib.Core.List.{List}
-use mathlib.Core.Option.{none, some}
 use mathlib.Core.Bool.{Bool, true, false, _&&_}
-use lib.ListN.{length, getD}
+use lib.ListN.{length}
 use lib.Dec.{eqb}
 use Rattle.frames.specs.Frame.{frameFits, frame}
 use Rattle.frames.specs.Place.{placeAt, inPool, recordAt}
 use Rattle.frames.specs.declared.frame.Caps.{Caps}
 use Rattle.frames.specs.declared.frame.Frame.{Frame}
 use Rattle.records.specs.Words.{usedAs, nextLeaf}
-use Rattle.records.specs.View.{Held, ruleAt}
-use Rattle.art.specs.Tags.{Tag, Listing}
-use Rattle.art.specs.Listings.{lookup}
-use Rattle.art.specs.Orders.{after}
-use Rattle.art.specs.Verdicts.{known, clash, free, judge}
-use Rattle.art.specs.Deletes.{held}
+use Rattle.records.specs.View.{ruleAt}
+use Rattle.art.specs.Tags.{Tag}
 use Rattle.art.specs.Stores.{Place, leaf-place, inner-place}
 use Rattle.pools.specs.Start.{startFitsIn}
 use Rattle.tree.specs.declared.lookup.Aim.the-variants.{Exact, Begin}
 use Rattle.tree.specs.declared.minmax.Edge.the-variants.{Low, High}
 use Rattle.whole.specs.Marks.{placesIn}
 use Rattle.whole.specs.Sound.{Sound}
-use Rattle.insert.specs.Room.{Lacking}
 use Rattle.insert.specs.Insert.{tooLong}
-use Rattle.demands.specs.Calls.{Query, search, prefix-search, minimum, maximum, next-leaf, leaf-facts, leaf-tag, check, first-at-or-after, insert, delete, Call, start, query, ask, edit, Slices, checks}
+use Rattle.demands.specs.Calls.{Query, search, prefix-search, minimum, maximum, next-leaf, leaf-facts, leaf-tag, insert, Call, start, query, edit, Slices, checks}
+use Rattle.demands.specs.Told.{Told}
+use Rattle.demands.specs.Listed.{Listed}
 use Rattle.demands.specs.Way.{Gives, Ends}
 
--- ── frame, scratch, whole check ──
+-- ── the frame, and scratch ──
 -- 6: the frame does not fit
 abbrev pub Unframed : Slices → Type 0
 Unframed s = frameFits (s .words) (s .keys) ≡ false
@@ -39,29 +35,9 @@ Unframed s = frameFits (s .words) (s .keys) ≡ false
 abbrev pub Fitting : Slices → Type 0
 Fitting s = frameFits (s .words) (s .keys) ≡ true
 
--- 7: it fits, and scratch has fewer bytes than the block has places
-pub record Short (s : Slices) : Type 0 where
-  pub fits : Fitting s
-  pub less : length (s .scratch) < placesIn (frame (s .words))
-
--- 6: scratch is long enough, and the block is not sound
-pub record Unsound (s : Slices) : Type 0 where
-  pub fits : Fitting s
-  pub room : placesIn (frame (s .words)) ≤ length (s .scratch)
-  pub not-sound : ¬ Sound (s .words) (s .keys)
-
--- scratch is long enough, and the block is sound
-pub record Passed (s : Slices) : Type 0 where
-  pub room : placesIn (frame (s .words)) ≤ length (s .scratch)
-  pub sound : Sound (s .words) (s .keys)
-
--- what a sound block holds
-abbrev pub holds : {words keys : List ℕ} → Sound words keys → Listing Held
-holds s = held (s .tree)
-
--- every leaf of a sound block has a tag
-abbrev pub Full : {words keys : List ℕ} → Sound words keys → Type 0
-Full {words} s = length (holds s) ≡ getD (frame words .caps) 5 0
+-- there is a byte of scratch for each record
+abbrev pub Enough : Slices → Type 0
+Enough s = placesIn (frame (s .words)) ≤ length (s .scratch)
 
 -- ── a leaf number ──
 -- a leaf of the pool that is not free
@@ -97,10 +73,6 @@ pub data OnLeaf : Query → ℕ → Type 0 where
   of-next : (n : ℕ) → OnLeaf (next-leaf n) n
   of-facts : (n : ℕ) → OnLeaf (leaf-facts n) n
 
--- insert's tag is not too long
-abbrev pub Allowed : Tag → Slices → Type 0
-Allowed t s = tooLong (s .words) (s .keys) t ≡ false
-
 -- ── the table ──
 -- the number that is due for a call on what is lent to it
 pub data Due : Call → Slices → ℕ → Type 0 where
@@ -114,6 +86,8 @@ pub data Due : Call → Slices → ℕ → Type 0 where
   prefix-walked : {t : Tag} {s : Slices} {n : ℕ} → Fitting s → Gives (frame (s .words)) (s .words) (s .keys) t Begin n → Due (query (prefix-search t)) s n
   minimum-walked : {s : Slices} {n : ℕ} → Fitting s → Ends (frame (s .words)) (s .words) (s .keys) Low n → Due (query minimum) s n
   maximum-walked : {s : Slices} {n : ℕ} → Fitting s → Ends (frame (s .words)) (s .words) (s .keys) High n → Due (query maximum) s n
+  -- the call that gives a tag: no number, for which 0 stands
+  tag-given : {n : ℕ} {s : Slices} → Due (query (leaf-tag n)) s 0
   -- a leaf number: 9 for the number, then 6 for the leaf
   leaf-outside : {q : Query} {n : ℕ} {s : Slices} → OnLeaf q n → Fitting s → inPool (frame (s .words)) (leaf-place n) ≡ false → Due (query q) s 9
   leaf-free : {q : Query} {n : ℕ} {s : Slices} → OnLeaf q n → Fitting s → inPool (frame (s .words)) (leaf-place n) ≡ true
@@ -123,24 +97,10 @@ pub data Due : Call → Slices → ℕ → Type 0 where
   next-end : {n : ℕ} {s : Slices} → InUse s n → obeys s n ≡ true → nextRef s n ≡ 0 → Due (query (next-leaf n)) s 1
   next-done : {n : ℕ} {s : Slices} → InUse s n → obeys s n ≡ true → nextRef s n ≢ 0 → nextNamed s (nextRef s n) ≡ true → Due (query (next-leaf n)) s 0
   facts-done : {n : ℕ} {s : Slices} → InUse s n → obeys s n ≡ true → Due (query (leaf-facts n)) s 0
-  -- every call that gets to the check: 6 for the frame, 7, 6 for the block
-  checked-unframed : {c : Call} {s : Slices} → checks c s ≡ true → Unframed s → Due c s 6
-  checked-short : {c : Call} {s : Slices} → checks c s ≡ true → Short s → Due c s 7
-  checked-unsound : {c : Call} {s : Slices} → checks c s ≡ true → Unsound s → Due c s 6
-  -- the check, and first-at-or-after: 1 or 0 by the list
-  check-sound : {s : Slices} → Passed s → Due (ask check) s 0
-  after-missing : {t : Tag} {s : Slices} (p : Passed s) → after t (holds (p .sound)) ≡ none → Due (ask (first-at-or-after t)) s 1
-  after-found : {t : Tag} {s : Slices} (p : Passed s) (h : Held) → after t (holds (p .sound)) ≡ some h → Due (ask (first-at-or-after t)) s 0
-  -- insert: 2 before all else; past the check over if held, else 3, 4, 5
+  -- insert: 2 before all else
   insert-long : {t : Tag} {total : ℕ} {s : Slices} → tooLong (s .words) (s .keys) t ≡ true → Due (edit (insert t total)) s 2
-  insert-over : {t : Tag} {total : ℕ} {s : Slices} → Allowed t s → (p : Passed s) → judge t (holds (p .sound)) ≡ known → Due (edit (insert t total)) s 0
-  insert-clash : {t : Tag} {total : ℕ} {s : Slices} → Allowed t s → (p : Passed s) → judge t (holds (p .sound)) ≡ clash → Due (edit (insert t total)) s 3
-  insert-full : {t : Tag} {total : ℕ} {s : Slices} → Allowed t s → (p : Passed s) → judge t (holds (p .sound)) ≡ free
-      → Full (p .sound) → Due (edit (insert t total)) s 4
-  insert-lacking : {t : Tag} {total : ℕ} {s : Slices} → Allowed t s → (p : Passed s) → judge t (holds (p .sound)) ≡ free
-      → ¬ Full (p .sound) → Lacking (frame (s .words)) (p .sound .tree) t → Due (edit (insert t total)) s 5
-  insert-new : {t : Tag} {total : ℕ} {s : Slices} → Allowed t s → (p : Passed s) → judge t (holds (p .sound)) ≡ free
-      → ¬ Full (p .sound) → ¬ Lacking (frame (s .words)) (p .sound .tree) t → Due (edit (insert t total)) s 0
-  -- delete: past the check 1 or 0 by the list
-  delete-missing : {t : Tag} {s : Slices} (p : Passed s) → lookup t (holds (p .sound)) ≡ none → Due (edit (delete t)) s 1
-  delete-held : {t : Tag} {s : Slices} (p : Passed s) (h : Held) → lookup t (holds (p .sound)) ≡ some h → Due (edit (delete t)) s 0
+  -- every call that gets to the check: 6 for the frame, 7, 6 for the block; past it the number that the sorted list has
+  checked-unframed : {c : Call} {s : Slices} → checks c s ≡ true → Unframed s → Due c s 6
+  checked-short : {c : Call} {s : Slices} → checks c s ≡ true → Fitting s → ¬ Enough s → Due c s 7
+  checked-unsound : {c : Call} {s : Slices} → checks c s ≡ true → Fitting s → Enough s → ¬ Sound (s .words) (s .keys) → Due c s 6
+  checked-listed : {c : Call} {s : Slices} → checks c s ≡ true → Enough s → (z : Sound (s .words) (s .keys)) (a : Told) → Listed z c a → Due c s (a .number)

@@ -9,6 +9,7 @@ pub mod Story
 pub mod Accepts
 pub mod Way
 pub mod Due
+pub mod Tests
 pub mod Ledger
 pub mod Programs
 pub mod Demands

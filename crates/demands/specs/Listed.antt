@@ -4,14 +4,14 @@ use mathlib.Core.Path.{_≡_}
 use mathlib.Core.List.{List, _∷_, _++_}
 use mathlib.Core.Option.{Option, none, some}
 use mathlib.Core.Bool.{true, false}
-use lib.ListN.{length}
+use lib.ListN.{length, getD}
 use Rattle.frames.specs.Frame.{frame}
 use Rattle.records.specs.View.{Held}
 use Rattle.art.specs.Tags.{Tag, Listing, exact, begin}
-use Rattle.art.specs.Listings.{find, lookup}
+use Rattle.art.specs.Listings.{find, lookup, Clashes}
 use Rattle.art.specs.Members.{In}
+use Rattle.art.specs.Deletes.{held}
 use Rattle.art.specs.Orders.{first-of, last-of, after}
-use Rattle.art.specs.Verdicts.{clash, free, judge}
 use Rattle.reading.specs.Calls.{Free}
 use Rattle.whole.specs.Marks.{placesIn}
 use Rattle.whole.specs.Sound.{Sound}
@@ -20,7 +20,14 @@ use Rattle.insert.specs.Insert.{tooLong}
 use Rattle.demands.specs.Calls as calls
 use Rattle.demands.specs.Calls.{Call, Slices}
 use Rattle.demands.specs.Told.{Told, only, withTotal, withLeaf, withLength, withTag}
-use Rattle.demands.specs.Due.{holds, Full}
+
+-- what a sound block holds
+abbrev pub holds : {words keys : List ℕ} → Sound words keys → Listing Held
+holds s = held (s .tree)
+
+-- every leaf of a sound block has a tag
+abbrev pub Full : {words keys : List ℕ} → Sound words keys → Type 0
+Full {words} s = length (holds s) ≡ getD (frame words .caps) 5 0
 
 -- where a call takes scratch, there is a byte for each record
 abbrev pub Suffices : Call → Slices → Type 0
@@ -43,10 +50,10 @@ finds (some h) = withLeaf (h .number) (withTotal (h .total) (only 0))
 -- record that it wants is not to be had
 pub record InsertsListed {words keys : List ℕ} (s : Sound words keys) (t : Tag) (a : Told) : Type 0 where
   pub over : (h : Held) → lookup t (holds s) ≡ some h → a ≡ takes (some h)
-  pub clashes : judge t (holds s) ≡ clash → a ≡ only 3
-  pub full : judge t (holds s) ≡ free → Full s → a ≡ only 4
-  pub lacks : judge t (holds s) ≡ free → ¬ Full s → Lacking (frame words) (s .tree) t → a ≡ only 5
-  pub new : judge t (holds s) ≡ free → ¬ Full s → ¬ Lacking (frame words) (s .tree) t → a ≡ only 0
+  pub clashes : lookup t (holds s) ≡ none → Clashes t (holds s) → a ≡ only 3
+  pub full : ¬ Clashes t (holds s) → Full s → a ≡ only 4
+  pub lacks : ¬ Clashes t (holds s) → ¬ Full s → Lacking (frame words) (s .tree) t → a ≡ only 5
+  pub new : ¬ Clashes t (holds s) → ¬ Full s → ¬ Lacking (frame words) (s .tree) t → a ≡ only 0
 
 -- searches by what the list finds, minimum and maximum by its ends, next leaf by the entry that follows, the calls on a leaf by its entry; the check finds nothing wrong; first-at-or-after by
 -- the first entry that is not below; insert and delete by what is held for the tag. Start does not ask the list

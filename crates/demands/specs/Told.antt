@@ -8,7 +8,7 @@ use Rattle.whole.specs.Check as check
 use Rattle.range.specs.Range as range
 use Rattle.insert.specs.Answer as insert
 use Rattle.delete.specs.Answer as delete
-use Rattle.demands.specs.Calls.{Answer, started, found, facts, tag, checked, after, inserted, deleted}
+use Rattle.demands.specs.Calls.{Call, Slices, run, Answer, started, found, facts, tag, checked, after, inserted, deleted}
 
 -- all that an answer tells: its number, and values that are 0 or empty where it has none
 pub record Told : Type 0 where
@@ -48,3 +48,7 @@ toldBy (checked a) = only (check.numberOf a)
 toldBy (after a) = withLeaf (range.leafOf a) (withTotal (range.totalIn a) (only (range.numberOf a)))
 toldBy (inserted a) = withTotal (insert.totalIn a) (only (insert.numberOf a))
 toldBy (deleted a) = withTotal (delete.totalIn a) (only (delete.numberOf a))
+
+-- the number that a call gives back; the one that gives a tag gives none, for which 0 stands
+abbrev pub number : Call → Slices → ℕ
+number c s = toldBy (run c s .answer) .number

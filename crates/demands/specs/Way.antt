@@ -2,7 +2,7 @@
 use Prim.Native.Nat.{ℕ, suc, _+_}
 use mathlib.Core.Path.{_≡_}
 use mathlib.Core.Logic.{_≢_}
-use mathlib.Core.List.{List}
+use mathlib.Core.List.{List, [], _∷_}
 use mathlib.Core.Bool.{true, false}
 use lib.ListN.{getD}
 use Rattle.prefix.specs.Match.{matchOf}
@@ -13,14 +13,15 @@ use Rattle.prefix.specs.declared.lookup.PrefixMatch.the-variants.{On, Off}
 use Rattle.frames.specs.Frame.{rootWord}
 use Rattle.frames.specs.Place.{placeAt, inPool, recordAt, keyAt}
 use Rattle.frames.specs.declared.frame.Frame.{Frame}
-use Rattle.records.specs.Own.{prefixAt, childAt}
+use Rattle.records.specs.Own.{prefixAt}
+use Rattle.records.specs.Row.{rowAt, refFor}
 use Rattle.records.specs.View.{ruleAt}
 use Rattle.art.specs.Tags.{Tag}
 use Rattle.art.specs.Stores.{Place, leaf-place, inner-place}
 use Rattle.tree.specs.Walk.{leafFits}
-use Rattle.tree.specs.Edge.{edgeRef}
 use Rattle.tree.specs.declared.lookup.Aim.{Aim}
 use Rattle.tree.specs.declared.minmax.Edge.{Edge}
+use Rattle.tree.specs.declared.minmax.Edge.the-variants.{Low, High}
 
 -- ── arriving at a place, with so many inner records left on the path ──
 -- damage: no pool has the place, the record there breaks its own rule, or it is an inner record and none is left
@@ -41,7 +42,7 @@ matched f words t k n depth b = matchOf (prefixAt (f .form) (recordAt f words (i
 
 -- the reference of that record's child for byte d of the tag, 0 where there is none
 abbrev pub childFor : Frame → List ℕ → Tag → (k n d : ℕ) → ℕ
-childFor f words t k n d = childAt (f .form) k (recordAt f words (inner-place k n)) (getD t d 0)
+childFor f words t k n d = refFor (getD t d 0) (rowAt (f .form) k (recordAt f words (inner-place k n)))
 
 -- the places that the walk comes to, each with its depth: the root's, then from each inner record whose prefix agrees to the child for the next byte
 pub data Comes (f : Frame) (words keys : List ℕ) (t : Tag) : (left : ℕ) → Place → (depth : ℕ) → PrefixMatchBehavior → Type 0 where
@@ -63,11 +64,17 @@ pub data Gives (f : Frame) (words keys : List ℕ) (t : Tag) (aim : Aim) : ℕ �
       → leafFits (recordAt f words (leaf-place n)) (keyAt f keys n) t aim depth b ≡ true → Gives f words keys t aim 0
 
 -- ── minimum and maximum ──
+-- the reference of the first or of the last child of a row, or r where there is none
+abbrev pub endRef : Edge → ℕ → List (ℕ × ℕ) → ℕ
+endRef edge r [] = r
+endRef Low r (e ∷ es) = e .1
+endRef High r (e ∷ es) = endRef High (e .1) es
+
 -- the root's place, then from each inner record that of its lowest or highest child
 pub data Descends (f : Frame) (words keys : List ℕ) (edge : Edge) : (left : ℕ) → Place → Type 0 where
   root : rootWord words ≢ 0 → Descends f words keys edge (f .form .limit) (placeAt (rootWord words))
   child : {left k n : ℕ} → Descends f words keys edge (suc left) (inner-place k n) → Stands f words keys (inner-place k n)
-      → Descends f words keys edge left (placeAt (edgeRef edge (f .form) k (recordAt f words (inner-place k n))))
+      → Descends f words keys edge left (placeAt (endRef edge 0 (rowAt (f .form) k (recordAt f words (inner-place k n)))))
 
 -- 1 for no root; 6 for damage; 0 for a leaf
 pub data Ends (f : Frame) (words keys : List ℕ) (edge : Edge) : ℕ → Type 0 where

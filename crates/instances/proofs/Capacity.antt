@@ -2,7 +2,6 @@
 use mathlib.Core.Path.{_≡_, refl, ap}
 use mathlib.Core.Logic.{_≢_}
 use mathlib.Core.List.{List, [], _∷_, _++_}
-use mathlib.Core.Option.{some}
 use native.Mathlib.Omega.{arith}
 use lib.ListN.{length, replicate}
 use Rattle.frames.specs.Frame.{frame}
@@ -14,8 +13,10 @@ use Rattle.whole.specs.Sound.{Sound}
 use Rattle.whole.proofs.Sounds.{whole-sound}
 use Rattle.pointed.proofs.Points.{tag-bytes}
 use Rattle.insert.specs.Room.{Lacking}
-use Rattle.demands.specs.Calls.{edit, Call, start, insert, delete, numberOf, number}
-use Rattle.demands.specs.Histories.{Block, Turn, answered, next, after-all, AllBytes}
+use Rattle.art.specs.Verdicts.{judge}
+use Rattle.demands.specs.Calls.{edit, Call, start, insert, delete}
+use Rattle.demands.specs.Told.{number}
+use Rattle.demands.specs.Histories.{lent, Block, Turn, next, after-all, AllBytes}
 use Rattle.demands.proofs.Leaves.{full-count}
 use Rattle.demands.proofs.Histories.{history}
 use Rattle.capacity.specs.Capacity.{Large, AmpleCaps, AmpleFrame, AmpleStarts, Tight}
@@ -41,9 +42,9 @@ four-large = omega arith
 
 has-room : ¬ Lacking (frame (four .words)) (four-sound .tree) B
 unfolding opened
-has-room = never-lacks four-sound B (tag-bytes B refl) four-large (λ full. omega (arith, full-count four-sound full, ap length (holds-is four-sound)))
+has-room = never-lacks four-sound B (tag-bytes B refl) four-large (ap (judge B) (holds-is four-sound)) (λ full. omega (arith, full-count four-sound full, ap length (holds-is four-sound)))
 
-not-five : number (edit (insert B 8)) (lend four 3) ≢ some 5
+not-five : number (edit (insert B 8)) (lend four 3) ≢ 5
 not-five = large-never-five (lend four 3) B 8 (tag-bytes B refl) four-large
 
 -- ── capacities for five tags ──
@@ -81,7 +82,7 @@ starts = (tt, ((λ done. enough), (tt, (tt, (tt, (tt, (tt, (tt, tt))))))))
 abbrev last : Block
 last = after-all (next before (call (start 1 five))) calls
 
-A-again : numberOf (answered last (call (edit (insert A 6)))) ≢ some 5
+A-again : number (edit (insert A 6)) (lent last (call (edit (insert A 6)))) ≢ 5
 A-again = ample-never-five before 1 five (replicate 11 1) accepted enough calls bytes starts A 6 (replicate 11 1) (tag-bytes A refl)
 
 smallest-kinds : Tight (frame (last .words)) (last .words) (last .keys)
@@ -95,4 +96,4 @@ last-sound = history before 1 five (replicate 11 1) accepted calls bytes .sound
 
 A-has-room : ¬ Lacking (frame (last .words)) (last-sound .tree) A
 unfolding opened
-A-has-room = tight-never-lacks last-sound A (tag-bytes A refl) smallest-kinds still-enough (λ full. omega (arith, full-count last-sound full, ap length (holds-is last-sound)))
+A-has-room = tight-never-lacks last-sound A (tag-bytes A refl) smallest-kinds still-enough (ap (judge A) (holds-is last-sound)) (λ full. omega (arith, full-count last-sound full, ap length (holds-is last-sound)))

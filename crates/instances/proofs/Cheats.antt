@@ -21,7 +21,7 @@ use Rattle.demands.specs.Told.{Told, only, withLeaf}
 use Rattle.demands.specs.Histories.{Block, Turn, totals}
 use Rattle.demands.specs.Accepts.{turn}
 use Rattle.demands.specs.Due as due
-use Rattle.demands.specs.Due.{holds}
+use Rattle.demands.specs.Listed.{holds}
 use Rattle.demands.specs.Listed.{finds}
 use Rattle.demands.specs.Ledger.{Ledger}
 use Rattle.demands.specs.Programs.{Seen, Program, seen}

@@ -15,7 +15,9 @@ use Rattle.frames.specs.Frame.{frame}
 use Rattle.whole.proofs.Sounds.{sound-whole}
 use Rattle.whole.proofs.Samples.{two-keys, broken-words, two-sound, broken-found}
 use Rattle.insert.specs.Room.{Lacking}
-use Rattle.demands.specs.Due.{Unframed, Short, Unsound, Full}
+use Rattle.demands.specs.Due.{Unframed}
+use Rattle.demands.specs.Tests.{Short, Unsound}
+use Rattle.demands.specs.Listed.{Full}
 use Rattle.instances.specs.Opened.{opened}
 use Rattle.instances.specs.Blocks.{nothing, two, broken, lone, room, lend, B, C}
 use Rattle.instances.proofs.Sounds.{lone-sound, room-sound, two-holds, lone-holds, room-holds, lone-tree, room-tree}

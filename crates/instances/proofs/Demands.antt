@@ -27,6 +27,7 @@ use Rattle.pointed.proofs.Points.{tag-bytes}
 use Rattle.insert.specs.Insert.{tooLong}
 use Rattle.insert.specs.declared.answer.Inserted.the-variants as inserted
 use Rattle.demands.specs.Calls as calls
+use Rattle.art.proofs.Clashes.{clash-clashes, free-unclashed}
 use Rattle.demands.specs.Calls.{Call, query, ask, edit, search, leaf-tag, check, insert, delete, Outcome, outcome, Promise, run}
 use Rattle.demands.specs.Told.{Told, only, withTotal, withLeaf, withTag, toldBy}
 use Rattle.demands.specs.Histories.{Block, Turn, answered, next, after-all, puts, totals, amended}
@@ -35,14 +36,14 @@ use Rattle.demands.specs.Accepts.{turn}
 use Rattle.demands.specs.Due.{Due}
 use Rattle.demands.specs.Programs.{seen}
 use Rattle.demands.specs.Demands.{Demands}
-use Rattle.demands.specs.Listed.{finds, takes, InsertsListed}
+use Rattle.demands.specs.Listed.{holds, finds, takes, InsertsListed}
 use Rattle.demands.proofs.Reading.{sound-reads}
 use Rattle.demands.proofs.Drawings.{drawing-held}
 use Rattle.demands.proofs.Listed.{sound-listed}
 use Rattle.demands.proofs.Outcomes.{one-outcome, promised}
 use Rattle.demands.specs.Frames.{FrameKept}
-use Rattle.demands.proofs.Frames.{frames-kept, kept-frame, kept-fits}
-use Rattle.demands.proofs.Numbers.{after-meets}
+use Rattle.demands.proofs.Frames.{frame-kept, frames-kept}
+use Rattle.demands.proofs.Listed.{after-meets}
 use Rattle.demands.proofs.Steps.{step-sound}
 use Rattle.demands.proofs.KeyBytes.{step-bytes}
 use Rattle.demands.proofs.Corollaries.{one-tree}
@@ -72,7 +73,7 @@ kept = kept-demands run promised
 -- ── a refused call: both leaves have tags, so C gets 4 ──
 refused-due : Due (edit (insert C 9)) (lend two 3) 4
 unfolding opened
-refused-due = demands .numbers (edit (insert C 9)) (tag-bytes C refl) (lend two 3) .1 (λ m e. let z : _≡_ {A = ℕ} 0 1 = cc in omega arith)
+refused-due = demands .numbers (edit (insert C 9)) (tag-bytes C refl) (lend two 3) .1
 
 -- it tells nothing but the 4
 refused-bare : toldBy (run (edit (insert C 9)) (lend two 3) .answer) ≡ only 4
@@ -104,7 +105,7 @@ room-bytes = tag-bytes (room .keys) refl
 
 put-framed : FrameKept (room .words) (room .keys) (three .words) (three .keys)
 unfolding opened
-put-framed = demands .framed (edit (insert C 9)) tt (tag-bytes C refl) (lend room 5) room-bytes
+put-framed = frame-kept (edit (insert C 9)) tt (tag-bytes C refl) (lend room 5) room-bytes
 
 -- C in and out again, with a search between
 abbrev there-and-back : List Turn
@@ -114,11 +115,9 @@ back-framed : FrameKept (room .words) (room .keys) (after-all room there-and-bac
 back-framed = let c : Bytes C = tag-bytes C refl in frames-kept room room-bytes there-and-back (tt, (tt, (tt, tt))) (c, (c, (c, tt)))
 
 -- so it is the same frame, and fits
-put-frame : frame (three .words) ≡ frame (room .words)
-put-frame = kept-frame put-framed
-
-put-fits : frameFits (three .words) (three .keys) ≡ frameFits (room .words) (room .keys)
-put-fits = kept-fits put-framed
+put-frame : (frame (three .words) ≡ frame (room .words)) × (frameFits (three .words) (three .keys) ≡ frameFits (room .words) (room .keys))
+unfolding opened
+put-frame = demands .framed (edit (insert C 9)) (λ form k e. let z : _≡_ {A = ℕ} 0 1 = cc in omega arith) (tag-bytes C refl) (lend room 5) room-bytes
 
 -- ── as a sorted list ──
 two-reads : Reads two-words two-keys (entry A 0 7 ∷ entry B 1 8 ∷ [])
@@ -151,11 +150,11 @@ A-over = inserted-listed A (tag-bytes A refl) refl .over (holding 0 7) (ap (look
 
 AB-clashes : on-two (edit (insert AB 9)) ≡ only 3
 unfolding opened
-AB-clashes = inserted-listed AB (tag-bytes AB refl) refl .clashes (ap (judge AB) two-holds)
+AB-clashes = let c = clash-clashes AB (holds two-sound) (ap (judge AB) two-holds) in inserted-listed AB (tag-bytes AB refl) refl .clashes (c .0) (c .1)
 
 C-leafless : on-two (edit (insert C 9)) ≡ only 4
 unfolding opened
-C-leafless = inserted-listed C (tag-bytes C refl) refl .full (ap (judge C) two-holds) two-full
+C-leafless = inserted-listed C (tag-bytes C refl) refl .full (free-unclashed C (holds two-sound) (ap (judge C) two-holds) .1) two-full
 
 A-gone : on-two (edit (delete A)) ≡ withTotal 7 (only 0)
 unfolding opened

@@ -1,19 +1,24 @@
 -- Each number from 0 to 9 is given, and its row of the table holds where it is: `due-number` and `number-due` on one call for each.
-use mathlib.Core.Path.{refl, ap}
+use mathlib.Core.Path.{_≡_, refl}
 use mathlib.Core.List.{List, [], _∷_}
 use lib.ListN.{replicate}
-use Rattle.art.specs.Listings.{lookup}
-use Rattle.art.specs.Verdicts.{judge}
+use mathlib.Core.Bool.{true}
 use Rattle.pointed.proofs.Points.{tag-bytes}
-use Rattle.demands.specs.Calls.{query, ask, edit, start, minimum, leaf-facts, check, insert, delete}
+use Rattle.demands.specs.Calls.{Call, Slices, checks, run, query, ask, edit, start, minimum, leaf-facts, check, insert, delete}
+use Rattle.demands.specs.Told.{toldBy}
+use Rattle.demands.specs.Histories.{CallBytes}
+use Rattle.demands.specs.Listed.{Suffices}
 use Rattle.demands.specs.Due as due
+use Rattle.demands.specs.Due.{Due}
+use Rattle.demands.specs.Tests.{Passed}
 use Rattle.demands.specs.Way as way
-use Rattle.demands.proofs.Numbers.{due-number, number-due}
+use Rattle.demands.proofs.Numbers.{due-number, number-due, short-not}
+use Rattle.demands.proofs.Demands.{demands}
 use Rattle.instances.specs.Opened.{opened}
-use Rattle.instances.specs.Blocks.{bare, two, broken, lone, caps, lend, A, B, C, AB, holding}
+use Rattle.instances.specs.Blocks.{bare, two, broken, lone, caps, lend, A, B, C, AB}
 use Rattle.instances.specs.Lines.{Line, line, Dues, Given, Byted, _then_}
-use Rattle.instances.proofs.Sounds.{two-holds, lone-holds, two-passed, lone-passed}
-use Rattle.instances.proofs.Conditions.{two-short, broken-unsound, two-full, lone-not-full, lone-lacks}
+use Rattle.instances.proofs.Sounds.{two-passed, lone-passed}
+use Rattle.instances.proofs.Conditions.{two-short, broken-unsound}
 
 -- ── the theorems, line by line ──
 pub dues-given : (ls : List Line) → Byted ls → Dues ls → Given ls
@@ -23,6 +28,10 @@ dues-given (l ∷ ls) b d = (due-number (b .0) (d .0), dues-given ls (b .1) (d .
 pub given-dues : (ls : List Line) → Byted ls → Given ls → Dues ls
 given-dues [] b g = tt
 given-dues (l ∷ ls) b g = (number-due (l .call) (l .lent) (l .number) (b .0) (g .0), given-dues ls (b .1) (g .1))
+
+-- past the check the row is what the list has
+pub listed-row : (c : Call) (s : Slices) (p : Passed s) → CallBytes c → Suffices c s → checks c s ≡ true → Due c s (toldBy (run c s .answer) .number)
+listed-row c s p b h e = due.checked-listed e (p .room) (p .sound) (toldBy (run c s .answer)) (demands .on-sound s (p .sound) c b h)
 
 -- ── a line for each number ──
 abbrev table : List Line
@@ -54,14 +63,14 @@ by-number = given-dues table byted computed
 dues : Dues table
 unfolding opened
 dues =
-    due.delete-held two-passed (holding 0 7) (ap (lookup A) two-holds)
+    listed-row (edit (delete A)) (lend two 3) two-passed (tag-bytes A refl) (two-passed .room) refl
     then due.minimum-walked refl (way.rootless refl)
     then due.insert-long {t = replicate 65 65} refl
-    then due.insert-clash {t = AB} refl two-passed (ap (judge AB) two-holds)
-    then due.insert-full {t = C} refl two-passed (ap (judge C) two-holds) two-full
-    then due.insert-lacking {t = B} refl lone-passed (ap (judge B) lone-holds) lone-not-full lone-lacks
-    then due.checked-unsound refl broken-unsound
-    then due.checked-short refl two-short
+    then listed-row (edit (insert AB 1)) (lend two 3) two-passed (tag-bytes AB refl) (two-passed .room) refl
+    then listed-row (edit (insert C 1)) (lend two 3) two-passed (tag-bytes C refl) (two-passed .room) refl
+    then listed-row (edit (insert B 1)) (lend lone 2) lone-passed (tag-bytes B refl) (lone-passed .room) refl
+    then due.checked-unsound refl (broken-unsound .fits) (broken-unsound .room) (broken-unsound .not-sound)
+    then due.checked-short refl (two-short .fits) (short-not (lend two 2) two-short)
     then due.start-refused refl
     then due.leaf-outside (due.of-facts _) refl refl
     then tt

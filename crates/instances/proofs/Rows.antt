@@ -2,15 +2,20 @@
 use Prim.Native.Nat.{ℕ}
 use mathlib.Core.Path.{_≡_, refl, sym, ap, _∙_}
 use mathlib.Core.List.{List, [], _∷_}
-use mathlib.Core.Option.{Option, none, some}
+use mathlib.Core.Option.{none, some}
 use native.Mathlib.Omega.{arith}
 use lib.ListN.{replicate}
-use Rattle.art.specs.Listings.{lookup}
-use Rattle.art.specs.Orders.{after}
+use Rattle.art.specs.Tags.{Tag}
+use Rattle.art.specs.Listings.{lookup, Clashes}
+use Rattle.art.proofs.Clashes.{clash-clashes, free-unclashed}
 use Rattle.art.specs.Verdicts.{judge}
 use Rattle.pointed.proofs.Points.{tag-bytes}
 use Rattle.reading.specs.Answers.{Bytes}
-use Rattle.demands.specs.Calls.{Query, number, query, ask, edit, start, search, prefix-search, minimum, maximum, next-leaf, leaf-facts, check, first-at-or-after, insert, delete}
+use Rattle.demands.specs.Calls.{Query, Slices, run, query, ask, edit, start, search, prefix-search, minimum, maximum, next-leaf, leaf-facts, leaf-tag, check, first-at-or-after, insert, delete}
+use Rattle.demands.specs.Told.{Told, only, toldBy, number}
+use Rattle.demands.specs.Listed.{holds, takes}
+use Rattle.demands.proofs.Numbers.{short-not}
+use Rattle.demands.proofs.Demands.{demands}
 use Rattle.demands.specs.Due as due
 use Rattle.demands.specs.Due.{InUse, Numbered}
 use Rattle.instances.specs.Opened.{opened}
@@ -18,7 +23,19 @@ use Rattle.instances.specs.Blocks.{nothing, spare, two, broken, overlong
 use Rattle.instances.specs.Lines.{Line, line, Dues, Given, _then_}
 use Rattle.instances.proofs.Sounds.{two-holds, lone-holds, room-holds, two-passed, lone-passed, room-passed}
 use Rattle.instances.proofs.Conditions.{none-unframed, two-short, broken-unsound, two-full, lone-not-full, lone-lacks, room-not-full, room-not-lacks}
-use Rattle.instances.proofs.Numbers.{dues-given}
+use Rattle.instances.proofs.Numbers.{dues-given, listed-row}
+
+a : Bytes A
+a = tag-bytes A refl
+
+b : Bytes B
+b = tag-bytes B refl
+
+c : Bytes C
+c = tag-bytes C refl
+
+ab : Bytes AB
+ab = tag-bytes AB refl
 
 -- ── start ──
 abbrev starts : List Line
@@ -30,11 +47,8 @@ starts-due = due.start-refused refl then due.start-refused refl then due.start-d
 
 -- ── the queries, where no frame fits ──
 -- one with a number there gives no tag
-numbered : (q : Query) → number (query q) (lend nothing 0) ≡ some 6 → Numbered q
-numbered q e n z =
-    let none-is : _≡_ {A = Option ℕ} none (some 6) = sym (ap (λ (r : Query). number (query r) (lend nothing 0)) z) ∙ e in
-    let y : _≡_ {A = ℕ} 0 1 = cc in
-    omega arith
+numbered : (q : Query) → number (query q) (lend nothing 0) ≡ 6 → Numbered q
+numbered q e n z = let six : _≡_ {A = ℕ} 0 6 = sym (ap (λ (r : Query). number (query r) (lend nothing 0)) z) ∙ e in omega arith
 
 abbrev frameless : List Line
 frameless =
@@ -86,6 +100,7 @@ leaves =
     ∷ line (query (leaf-facts 1)) (lend spare 0) 9
     ∷ line (query (leaf-facts 0)) (lend overlong 0) 6
     ∷ line (query (leaf-facts 0)) (lend two 0) 0
+    ∷ line (query (leaf-tag 0)) (lend two 0) 0
     ∷ []
 
 leaves-due : Dues leaves
@@ -101,6 +116,7 @@ leaves-due =
     then due.leaf-free (due.of-facts _) refl refl refl
     then due.leaf-broken (due.of-facts _) overlong-used refl
     then due.facts-done first-used refl
+    then due.tag-given
     then tt
 
 -- ── the calls with scratch ──
@@ -126,19 +142,19 @@ scratched-due : Dues scratched
 unfolding opened
 scratched-due =
     due.checked-unframed refl none-unframed
-    then due.checked-short refl two-short
-    then due.checked-unsound refl broken-unsound
-    then due.check-sound two-passed
+    then due.checked-short refl (two-short .fits) (short-not (lend two 2) two-short)
+    then due.checked-unsound refl (broken-unsound .fits) (broken-unsound .room) (broken-unsound .not-sound)
+    then listed-row (ask check) (lend two 3) two-passed tt (two-passed .room) refl
     then due.checked-unframed refl none-unframed
-    then due.checked-short refl two-short
-    then due.checked-unsound refl broken-unsound
-    then due.after-missing two-passed (ap (after C) two-holds)
-    then due.after-found two-passed (holding 1 8) (ap (after AB) two-holds)
+    then due.checked-short refl (two-short .fits) (short-not (lend two 2) two-short)
+    then due.checked-unsound refl (broken-unsound .fits) (broken-unsound .room) (broken-unsound .not-sound)
+    then listed-row (ask (first-at-or-after C)) (lend two 3) two-passed c (two-passed .room) refl
+    then listed-row (ask (first-at-or-after AB)) (lend two 3) two-passed ab (two-passed .room) refl
     then due.checked-unframed refl none-unframed
-    then due.checked-short refl two-short
-    then due.checked-unsound refl broken-unsound
-    then due.delete-missing two-passed (ap (lookup C) two-holds)
-    then due.delete-held two-passed (holding 0 7) (ap (lookup A) two-holds)
+    then due.checked-short refl (two-short .fits) (short-not (lend two 2) two-short)
+    then due.checked-unsound refl (broken-unsound .fits) (broken-unsound .room) (broken-unsound .not-sound)
+    then listed-row (edit (delete C)) (lend two 3) two-passed c (two-passed .room) refl
+    then listed-row (edit (delete A)) (lend two 3) two-passed a (two-passed .room) refl
     then tt
 
 abbrev inserts : List Line
@@ -159,28 +175,16 @@ unfolding opened
 inserts-due =
     due.insert-long {t = replicate 65 65} refl
     then due.checked-unframed refl none-unframed
-    then due.checked-short refl two-short
-    then due.checked-unsound refl broken-unsound
-    then due.insert-over {t = A} refl two-passed (ap (judge A) two-holds)
-    then due.insert-clash {t = AB} refl two-passed (ap (judge AB) two-holds)
-    then due.insert-full {t = C} refl two-passed (ap (judge C) two-holds) two-full
-    then due.insert-lacking {t = B} refl lone-passed (ap (judge B) lone-holds) lone-not-full lone-lacks
-    then due.insert-new {t = C} refl room-passed (ap (judge C) room-holds) room-not-full room-not-lacks
+    then due.checked-short refl (two-short .fits) (short-not (lend two 2) two-short)
+    then due.checked-unsound refl (broken-unsound .fits) (broken-unsound .room) (broken-unsound .not-sound)
+    then listed-row (edit (insert A 1)) (lend two 3) two-passed a (two-passed .room) refl
+    then listed-row (edit (insert AB 1)) (lend two 3) two-passed ab (two-passed .room) refl
+    then listed-row (edit (insert C 1)) (lend two 3) two-passed c (two-passed .room) refl
+    then listed-row (edit (insert B 1)) (lend lone 2) lone-passed b (lone-passed .room) refl
+    then listed-row (edit (insert C 1)) (lend room 5) room-passed c (room-passed .room) refl
     then tt
 
 -- ── so each gives its number ──
-a : Bytes A
-a = tag-bytes A refl
-
-b : Bytes B
-b = tag-bytes B refl
-
-c : Bytes C
-c = tag-bytes C refl
-
-ab : Bytes AB
-ab = tag-bytes AB refl
-
 starts-given : Given starts
 starts-given = dues-given starts (tt then tt then tt then tt) starts-due
 
@@ -188,10 +192,38 @@ frameless-given : Given frameless
 frameless-given = dues-given frameless (a then ab then tt then tt then tt then tt then tt) frameless-due
 
 leaves-given : Given leaves
-leaves-given = dues-given leaves (tt then tt then tt then tt then tt then tt then tt then tt then tt then tt then tt) leaves-due
+leaves-given = dues-given leaves (tt then tt then tt then tt then tt then tt then tt then tt then tt then tt then tt then tt) leaves-due
 
 scratched-given : Given scratched
 scratched-given = dues-given scratched (tt then tt then tt then tt then a then a then a then c then ab then a then a then a then c then a then tt) scratched-due
 
 inserts-given : Given inserts
 inserts-given = dues-given inserts (tag-bytes (replicate 65 65) refl then a then a then a then a then ab then c then b then c then tt) inserts-due
+
+-- ── what an insert tells past the check, by what the list has for its tag: held, in a clash, with no leaf free, with no record, or new ──
+abbrev told : Tag → Slices → Told
+told t s = toldBy (run (edit (insert t 1)) s .answer)
+
+held-told : told A (lend two 3) ≡ takes (some (holding 0 7))
+unfolding opened
+held-told = demands .on-sound (lend two 3) (two-passed .sound) (edit (insert A 1)) a (two-passed .room) .1 refl .over (holding 0 7) (ap (lookup A) two-holds)
+
+AB-clash : (lookup AB (holds (two-passed .sound)) ≡ none) × Clashes AB (holds (two-passed .sound))
+unfolding opened
+AB-clash = clash-clashes AB (holds (two-passed .sound)) (ap (judge AB) two-holds)
+
+clash-told : told AB (lend two 3) ≡ only 3
+unfolding opened
+clash-told = demands .on-sound (lend two 3) (two-passed .sound) (edit (insert AB 1)) ab (two-passed .room) .1 refl .clashes (AB-clash .0) (AB-clash .1)
+
+full-told : told C (lend two 3) ≡ only 4
+unfolding opened
+full-told = demands .on-sound (lend two 3) (two-passed .sound) (edit (insert C 1)) c (two-passed .room) .1 refl .full (free-unclashed C (holds (two-passed .sound)) (ap (judge C) two-holds) .1) two-full
+
+lacking-told : told B (lend lone 2) ≡ only 5
+unfolding opened
+lacking-told = demands .on-sound (lend lone 2) (lone-passed .sound) (edit (insert B 1)) b (lone-passed .room) .1 refl .lacks (free-unclashed B (holds (lone-passed .sound)) (ap (judge B) lone-holds) .1) lone-not-full lone-lacks
+
+new-told : told C (lend room 5) ≡ only 0
+unfolding opened
+new-told = demands .on-sound (lend room 5) (room-passed .sound) (edit (insert C 1)) c (room-passed .room) .1 refl .new (free-unclashed C (holds (room-passed .sound)) (ap (judge C) room-holds) .1) room-not-full room-not-lacks

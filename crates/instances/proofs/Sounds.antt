@@ -24,7 +24,7 @@ use Rattle.whole.proofs.Sounds.{whole-sound}
 use Rattle.whole.proofs.Samples.{two-words, two-keys, two-sound}
 use Rattle.pointed.proofs.Heights.{shown-height}
 use Rattle.pointed.proofs.Sounds.{sound-shown}
-use Rattle.demands.specs.Due.{Passed}
+use Rattle.demands.specs.Tests.{Passed}
 use Rattle.demands.proofs.Reading.{sound-reads}
 use Rattle.instances.specs.Opened.{opened}
 use Rattle.instances.specs.Blocks.{bare, spare, two, lone, room, three, swapped, full, wide, cramped, long, parted, lend, A, B, C, D, E, J1, J2, AX, holding, entry, pair, triple, quadruple, quintuple, long-tags, parted-tags}

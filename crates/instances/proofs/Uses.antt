@@ -17,7 +17,7 @@ use Rattle.demands.specs.Histories.{Block, Turn, tally, AllBytes}
 use Rattle.demands.specs.Told.{only}
 use Rattle.demands.specs.Accepts.{turn}
 use Rattle.demands.specs.Drawn.{drawingOf}
-use Rattle.demands.specs.Due.{holds}
+use Rattle.demands.specs.Listed.{holds}
 use Rattle.demands.specs.Story.{Story}
 use Rattle.demands.specs.Later.{later, foundIs}
 use Rattle.demands.specs.Programs.{seen, tells, nextBy, afterBy}

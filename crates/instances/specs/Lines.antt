@@ -2,8 +2,8 @@
 use Prim.Native.Nat.{ℕ}
 use mathlib.Core.Path.{_≡_}
 use mathlib.Core.List.{List, [], _∷_}
-use mathlib.Core.Option.{some}
-use Rattle.demands.specs.Calls.{Call, Slices, number}
+use Rattle.demands.specs.Calls.{Call, Slices}
+use Rattle.demands.specs.Told.{number}
 use Rattle.demands.specs.Histories.{CallBytes}
 use Rattle.demands.specs.Due.{Due}
 
@@ -25,7 +25,7 @@ Dues (l ∷ ls) = Due (l .call) (l .lent) (l .number) × Dues ls
 -- each line's call gives its number
 abbrev pub Given : List Line → Type 0
 Given [] = Unit {0}
-Given (l ∷ ls) = (number (l .call) (l .lent) ≡ some (l .number)) × Given ls
+Given (l ∷ ls) = (number (l .call) (l .lent) ≡ l .number) × Given ls
 
 -- the tags are bytes
 abbrev pub Byted : List Line → Type 0
