@@ -18,10 +18,11 @@ pub mod Corollaries
 pub mod Tested
 pub mod Ways
 pub mod Inserted
-pub mod Numbers
 pub mod Listed
+pub mod Numbers
 pub mod Ledgers
 pub mod Demands
 pub mod Lasts
 pub mod Orderless
 pub mod Walks
+pub mod Takes

@@ -21,3 +21,4 @@ mod Prefix
 mod Frames
 mod Art
 mod Agree
+mod Takes
