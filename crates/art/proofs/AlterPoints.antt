@@ -20,7 +20,7 @@ use Rattle.art.specs.Drops.{spot}
 use Rattle.art.specs.Refs.{relink}
 use Rattle.art.specs.Lean.{lean-drops, lean-drops-row, lean-drops-inner, lean-drops-child}
 use Rattle.art.specs.Points.{Up, top, Point, cell-held, point, point-held, re-held, alter-at, store-of, root-of}
-use Rattle.art.proofs.Listings.{every-all, every-imp, every-under, find-none, find-left, find-right, ite-iff}
+use Rattle.art.proofs.Listings.{every-all, every-imp, every-under, find-none, find-left, find-right, find-exact, ite-iff}
 use Rattle.art.proofs.Trees.{row-above, row-filled}
 use Rattle.art.proofs.Walks.{store-shows}
 use Rattle.art.proofs.Refs.{at-kid, at-none, spot-kid, relink-none}
@@ -173,4 +173,4 @@ module _ {A : Type 0} where
 
   -- what is held at the point of a tag is what the listing holds for it, none where it does not hold it
   pub point-finds : (f : ℕ) (σ : Store A) (t : Tree A) → Good t → Shows t [] σ → height t < f → (s : Tag) → point-held σ (point f σ (root t) s) ≡ lookup s (contents t)
-  point-finds f σ t g h l s = reach-held g (seek-reaches f f σ t g [] s s refl h l l top top)
+  point-finds f σ t g h l s = reach-held g (seek-reaches f f σ t g [] s s refl h l l top top) ∙ find-exact s (contents t)

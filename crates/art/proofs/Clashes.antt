@@ -5,7 +5,7 @@ use mathlib.Core.Option.{Option, none, some}
 use mathlib.Core.List.{[], _∷_, append-nil}
 use Prim.Native.Nat.{ℕ}
 use native.Mathlib.Omega.{arith}
-use Rattle.art.specs.Tags.{Tag, Listing, Begins, exact, fits-dec}
+use Rattle.art.specs.Tags.{Tag, Listing, Begins, tag-dec}
 use Rattle.art.specs.Members.{In}
 use Rattle.art.specs.Listings.{lookup, Clashes}
 use Rattle.art.specs.Changes.{Meet, same, short, long, part, meet}
@@ -22,7 +22,7 @@ module _ {A : Type 0} where
 
   -- ── with one entry more ──
   later : (s : Tag) (e : Tag × A) (l : Listing A) → s ≢ e .0 → lookup s (e ∷ l) ≡ lookup s l
-  later s e l n = if-neg (fits-dec exact s (e .0)) n (some (e .1)) (lookup s l)
+  later s e l n = if-neg (tag-dec s (e .0)) n (some (e .1)) (lookup s l)
 
   -- that begins the tag or is begun by it
   near-says : (s : Tag) (e : Tag × A) (l : Listing A) (w : Verdict) → s ≢ e .0 → Begins s (e .0) ⊎ Begins (e .0) s → Says w s l → Says (graver clash w) s (e ∷ l)
@@ -41,7 +41,7 @@ module _ {A : Type 0} where
       go d (inr i) k = h .1 (d, i, k)
 
   entry-says : (s : Tag) (e : Tag × A) (l : Listing A) (m : Meet s (e .0)) (w : Verdict) → Says w s l → Says (graver (verdict m) w) s (e ∷ l)
-  entry-says s e l (same i) w h = ((e .1, if-pos (fits-dec exact s (e .0)) i (some (e .1)) (lookup s l)), (e, inl refl, inr ([], i ∙ sym (append-nil (e .0)))))
+  entry-says s e l (same i) w h = ((e .1, if-pos (tag-dec s (e .0)) i (some (e .1)) (lookup s l)), (e, inl refl, inr ([], i ∙ sym (append-nil (e .0)))))
   entry-says s e l (short y v i) w h = near-says s e l w (short-differs s (e .0) y v i) (inl (y ∷ v, i)) h
   entry-says s e l (long x u i) w h = near-says s e l w (long-differs s (e .0) x u i) (inr (x ∷ u, i)) h
   entry-says s e l (part c x u y v i j ne) w h =

@@ -7,7 +7,7 @@ use mathlib.Core.List.{List, [], _∷_, _++_, append-nil}
 use Prim.Native.Nat.{ℕ}
 use native.Mathlib.Decide.{ℕ-discrete}
 use native.Mathlib.Omega.{arith}
-use Rattle.art.specs.Tags.{Tag, Listing, Before, Order, order, below, equal, above, tag-dec, exact, fits-dec}
+use Rattle.art.specs.Tags.{Tag, Listing, Before, Order, order, below, equal, above, tag-dec}
 use Rattle.art.specs.Listings.{Every, Sorted, under, lookup}
 use Rattle.art.proofs.Listings.{every-imp}
 use Rattle.art.specs.Trees.{Tree, leaf, inner, Row, end, child, contents, row-contents, Good}
@@ -91,7 +91,7 @@ module _ {A : Type 0} where
   -- a held tag stands between two parts of a sorted listing, which are what is left without it
   pub leave-parts : (s : Tag) (a : A) (l : Listing A) → Sorted l → lookup s l ≡ some a → LeaveParts s a l
   leave-parts s a [] h e = let z : _≡_ {A = ℕ} 0 1 = cc in absurd (omega arith)
-  leave-parts s a (e ∷ l) h i = go (fits-dec exact s (e .0)) i (λ k. leave-parts s a l (h .1) k)
+  leave-parts s a (e ∷ l) h i = go (tag-dec s (e .0)) i (λ k. leave-parts s a l (h .1) k)
     where
       other : (t : Tag) → Before (e .0) t → s ≡ e .0 → s ≢ t
       other t b j k = before-not-begins (e .0) t b ([], sym k ∙ j ∙ sym (append-nil (e .0)))

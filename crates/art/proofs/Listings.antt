@@ -6,8 +6,8 @@ use mathlib.Core.List.{[], _∷_, _++_, append-assoc}
 use lib.ListN.{length}
 use lib.Seq.{drop-append-seam}
 use Rattle.art.proofs.Tags.{before-under}
-use Rattle.art.specs.Tags.{Tag, Listing, Before, Aim, Fits, fits-dec}
-use Rattle.art.specs.Listings.{Every, Sorted, under, strip, find}
+use Rattle.art.specs.Tags.{Tag, Listing, Before, Aim, exact, begin, Fits, tag-dec, begins-dec, fits-dec}
+use Rattle.art.specs.Listings.{Every, Sorted, under, strip, find, lookup, lookup-begun}
 
 module _ {A : Type 0} where
   -- what holds of all entries of two listings holds of both in a row
@@ -89,6 +89,18 @@ module _ {A : Type 0} where
   pub find-left : (m : Aim) (s : Tag) (k l : Listing A) → Every (λ t. ¬ Fits m s t) l → find m s (k ++ l) ≡ find m s k
   find-left m s [] l h = find-none m s l h
   find-left m s (e ∷ k) l h = ap (λ (o : Option A). ite (fits-dec m s (e .0)) (some (e .1)) o) (find-left m s k l h)
+
+  -- what is found exactly is what is held for the tag
+  pub find-exact : (s : Tag) (l : Listing A) → find exact s l ≡ lookup s l
+  unfolding fits-dec
+  find-exact s [] = refl
+  find-exact s (e ∷ l) = ap (ite (tag-dec s (e .0)) (some (e .1))) (find-exact s l)
+
+  -- and what is found to begin the bytes what the first tag holds that begins them
+  pub find-begin : (s : Tag) (l : Listing A) → find begin s l ≡ lookup-begun s l
+  unfolding fits-dec
+  find-begin s [] = refl
+  find-begin s (e ∷ l) = ap (ite (begins-dec (e .0) s) (some (e .1))) (find-begin s l)
 
 -- two tests that hold together choose the same
 pub ite-iff : {P Q C : Type 0} (d : Dec P) (k : Dec Q) → (P → Q) → (Q → P) → (x y : C) → ite d x y ≡ ite k x y

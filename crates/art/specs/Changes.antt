@@ -1,9 +1,10 @@
 -- How two tags meet, and insert on trees.
 use mathlib.Core.Path.{_≡_, refl, sym}
-use mathlib.Core.Logic.{_⊎_, inl, inr, _≢_, ite}
+use mathlib.Core.Logic.{_⊎_, _≢_, ite}
 use mathlib.Core.List.{[], _∷_, _++_}
 use Prim.Native.Nat.{ℕ}
 use native.Mathlib.Decide.{ℕ-discrete}
+use Rattle.art.specs.Decisions.{either-dec}
 use Rattle.art.specs.Tags.{Tag, Order, order, below, equal, above}
 use Rattle.art.specs.Trees.{Tree, leaf, inner, Row, end, child}
 
@@ -40,12 +41,7 @@ module _ {A : Type 0} where
   unfoldable pub has : (b : ℕ) (r : Row A) → Dec (Has b r)
   unfolding ℕ-discrete
   has b end = no (λ h. h)
-  has b (child c t r) = pick (ℕ-discrete b c) (has b r)
-    where
-      pick : Dec (b ≡ c) → Dec (Has b r) → Dec ((b ≡ c) ⊎ Has b r)
-      pick (yes e) d = yes (inl e)
-      pick (no n) (yes h) = yes (inr h)
-      pick (no n) (no m) = no (λ h. elim h [ inl e ↦ n e | inr k ↦ m k ])
+  has b (child c t r) = either-dec (ℕ-discrete b c) (has b r)
 
   -- a row of two, in byte order
   abbrev pub pair-by : (x y : ℕ) → Order x y → Tree A → Tree A → Row A

@@ -1,3 +1,4 @@
+pub mod Decisions
 pub mod Tags
 pub mod Listings
 pub mod Trees

@@ -4,7 +4,7 @@ use mathlib.Core.Option.{Option, none, some}
 use mathlib.Core.List.{[], _∷_, _++_}
 use Prim.Native.Nat.{ℕ}
 use lib.ListN.{drop}
-use Rattle.art.specs.Tags.{Tag, Listing, Before, Begins, Aim, exact, fits-dec}
+use Rattle.art.specs.Tags.{Tag, Listing, Before, Begins, Aim, tag-dec, begins-dec, fits-dec}
 use Rattle.art.specs.Members.{In}
 
 module _ {A : Type 0} where
@@ -36,7 +36,13 @@ module _ {A : Type 0} where
 
   -- what is held for a tag
   abbrev pub lookup : Tag → Listing A → Option A
-  lookup s l = find exact s l
+  lookup s [] = none
+  lookup s (e ∷ l) = ite (tag-dec s (e .0)) (some (e .1)) (lookup s l)
+
+  -- what the first tag holds that begins the bytes
+  abbrev pub lookup-begun : Tag → Listing A → Option A
+  lookup-begun s [] = none
+  lookup-begun s (e ∷ l) = ite (begins-dec (e .0) s) (some (e .1)) (lookup-begun s l)
 
   -- a held tag begins with the bytes, or they begin with it; one that is equal to them does both
   abbrev pub Clashes : Tag → Listing A → Type 0

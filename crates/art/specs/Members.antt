@@ -1,7 +1,8 @@
 -- An element among those of a list, and lists without a repeat.
 use mathlib.Core.Path.{_≡_}
-use mathlib.Core.Logic.{_⊎_, inl, inr}
+use mathlib.Core.Logic.{_⊎_}
 use mathlib.Core.List.{List, [], _∷_}
+use Rattle.art.specs.Decisions.{either-dec}
 
 module _ {X : Type 0} where
   -- x is one of the list's
@@ -12,12 +13,7 @@ module _ {X : Type 0} where
   -- whether it is, where equality is decided
   abbrev pub in-dec : Discrete X → (x : X) (l : List X) → Dec (In x l)
   in-dec d x [] = no (λ h. h)
-  in-dec d x (y ∷ l) = pick (d x y) (in-dec d x l)
-    where
-      pick : Dec (x ≡ y) → Dec (In x l) → Dec (In x (y ∷ l))
-      pick (yes e) k = yes (inl e)
-      pick (no n) (yes h) = yes (inr h)
-      pick (no n) (no h) = no (elim [ inl e ↦ n e | inr k ↦ h k ])
+  in-dec d x (y ∷ l) = either-dec (d x y) (in-dec d x l)
 
   -- no element twice
   abbrev pub Different : List X → Type 0

@@ -1,25 +1,18 @@
 -- A tag put into a sorted listing, and left out of one.
-use mathlib.Core.Path.{_≡_}
-use mathlib.Core.Logic.{_⊎_, inl, inr, ite}
+use mathlib.Core.Logic.{_⊎_, ite}
 use mathlib.Core.Option.{Option, none, some}
 use mathlib.Core.List.{[], _∷_}
-use Prim.Native.Nat.{_<_}
-use native.Mathlib.Omega.{arith}
-use Rattle.art.specs.Tags.{Tag, Listing, Before, Less, Order, order, below, equal, above, tag-dec}
+use native.Mathlib.Decide.{ℕ-discrete, decLt}
+use Rattle.art.specs.Decisions.{both-dec, either-dec}
+use Rattle.art.specs.Tags.{Tag, Listing, Before, Less, tag-dec}
 
 -- whether s is less than t
 unfoldable pub less-dec : (s t : Tag) → Dec (Less s t)
-unfolding order
+unfolding decLt ℕ-discrete
 less-dec [] [] = no (λ h. h)
 less-dec [] (y ∷ t) = yes tt
 less-dec (x ∷ s) [] = no (λ h. h)
-less-dec (x ∷ s) (y ∷ t) = pick (order x y) (less-dec s t)
-  where
-    pick : Order x y → Dec (Less s t) → Dec ((x < y) ⊎ ((x ≡ y) × Less s t))
-    pick (below h) d = yes (inl h)
-    pick (equal e) (yes h) = yes (inr (e, h))
-    pick (equal e) (no n) = no (λ h. elim h [ inl k ↦ omega arith | inr k ↦ n (k .1) ])
-    pick (above h) d = no (λ k. elim k [ inl l ↦ omega arith | inr l ↦ omega arith ])
+less-dec (x ∷ s) (y ∷ t) = either-dec (decLt x y) (both-dec (ℕ-discrete x y) (less-dec s t))
 
 -- neither equal, nor does one begin the other
 abbrev pub Apart : Tag → Tag → Type 0

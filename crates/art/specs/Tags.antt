@@ -1,10 +1,13 @@
 -- Tags are lists of bytes, a byte is a number, and a listing is a list of tags with what each holds.
-use mathlib.Core.Path.{_≡_, refl, sym}
+use mathlib.Core.Path.{_≡_, refl, sym, ap, _∙_}
 use mathlib.Core.Logic.{_⊎_}
 use mathlib.Core.List.{List, [], _∷_, _++_, head-eq-of-cons-eq, tail-eq-of-cons-eq, cons-ne-nil}
 use Prim.Native.Nat.{ℕ, _<_}
 use native.Mathlib.Decide.{ℕ-discrete, decLt}
 use native.Mathlib.Omega.{arith}
+use lib.ListN.{length, take, drop, take-append-drop}
+use lib.Seq.{take-append-seam}
+use Rattle.art.specs.Decisions.{iff-dec, both-dec}
 
 -- the bytes of a tag
 abbrev pub Tag : Type 0
@@ -55,12 +58,7 @@ unfolding ℕ-discrete
 tag-dec [] [] = yes refl
 tag-dec [] (y ∷ t) = no (λ e. cons-ne-nil y t (sym e))
 tag-dec (x ∷ s) [] = no (cons-ne-nil x s)
-tag-dec (x ∷ s) (y ∷ t) = heads (ℕ-discrete x y) (tag-dec s t)
-  where
-    heads : Dec (x ≡ y) → Dec (Path Tag s t) → Dec (Path Tag (x ∷ s) (y ∷ t))
-    heads (yes p) (yes q) = yes (λ i. p i ∷ q i)
-    heads (yes p) (no n) = no (λ e. n (tail-eq-of-cons-eq e))
-    heads (no n) q = no (λ e. n (head-eq-of-cons-eq e))
+tag-dec (x ∷ s) (y ∷ t) = iff-dec (λ h. λ i. (h .0) i ∷ (h .1) i) (λ e. (head-eq-of-cons-eq e, tail-eq-of-cons-eq e)) (both-dec (ℕ-discrete x y) (tag-dec s t))
 
 -- ── what a search asks of a held tag t and the given bytes s: to be equal, or that t begins s ──
 -- equal, or begun
@@ -75,15 +73,10 @@ Fits begin s t = Begins t s
 
 -- whether s begins t
 unfoldable pub begins-dec : (s t : Tag) → Dec (Begins s t)
-unfolding ℕ-discrete
-begins-dec [] t = yes (t, refl)
-begins-dec (x ∷ s) [] = no (λ b. cons-ne-nil x (s ++ b .0) (sym (b .1)))
-begins-dec (x ∷ s) (y ∷ t) = heads (ℕ-discrete y x) (begins-dec s t)
-  where
-    heads : Dec (y ≡ x) → Dec (Begins s t) → Dec (Begins (x ∷ s) (y ∷ t))
-    heads (yes p) (yes b) = yes (b .0, λ i. p i ∷ (b .1) i)
-    heads (yes p) (no n) = no (λ b. n (b .0, tail-eq-of-cons-eq (b .1)))
-    heads (no n) d = no (λ b. n (head-eq-of-cons-eq (b .1)))
+unfolding tag-dec
+begins-dec s t =
+    iff-dec (λ e. (drop (length s) t, sym (take-append-drop (length s) t) ∙ ap (λ (p : Tag). p ++ drop (length s) t) e)) (λ b. ap (take (length s)) (b .1) ∙ take-append-seam s (b .0))
+    (tag-dec (take (length s) t) s)
 
 -- whether t fits s
 unfoldable pub fits-dec : (m : Aim) (s t : Tag) → Dec (Fits m s t)

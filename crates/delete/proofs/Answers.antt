@@ -10,7 +10,7 @@ use Rattle.frames.specs.Frame.{rootWord, frame}
 use Rattle.frames.specs.Place.{recordAt}
 use Rattle.records.specs.Own.{totalOf}
 use Rattle.records.specs.View.{Held}
-use Rattle.art.specs.Tags.{Tag, Listing, exact, tag-dec, fits-dec}
+use Rattle.art.specs.Tags.{Tag, Listing, tag-dec}
 use Rattle.art.specs.Trees.{Tree}
 use Rattle.art.specs.Listings.{lookup}
 use Rattle.art.specs.Puts.{leave}
@@ -45,8 +45,8 @@ leave-none s [] h = refl
 leave-none s (e ∷ l) h = go (tag-dec s (e .0)) (leave-none s l)
   where
     go : (d : Dec (s ≡ e .0)) → (lookup s l ≡ none → leave s l ≡ l) → ite {C = Listing Held} d (leave s l) (e ∷ leave s l) ≡ e ∷ l
-    go (yes i) ih = let found : some (e .1) ≡ none = sym (if-pos (fits-dec exact s (e .0)) i (some (e .1)) (lookup s l)) ∙ h in absurd (let z : _≡_ {A = ℕ} 0 1 = cc in omega arith)
-    go (no i) ih = ap (λ (k : Listing Held). e ∷ k) (ih (sym (if-neg (fits-dec exact s (e .0)) i (some (e .1)) (lookup s l)) ∙ h))
+    go (yes i) ih = let found : some (e .1) ≡ none = sym (if-pos (tag-dec s (e .0)) i (some (e .1)) (lookup s l)) ∙ h in absurd (let z : _≡_ {A = ℕ} 0 1 = cc in omega arith)
+    go (no i) ih = ap (λ (k : Listing Held). e ∷ k) (ih (sym (if-neg (tag-dec s (e .0)) i (some (e .1)) (lookup s l)) ∙ h))
 
 module _ {words keys : List ℕ} (s : Sound words keys) (tag : List ℕ) (bytes : Bytes tag) where
   abbrev theirs : Listing Held

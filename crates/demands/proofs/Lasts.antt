@@ -6,7 +6,7 @@ use mathlib.Core.List.{List, [], _∷_}
 use mathlib.Core.Option.{Option, none, some}
 use native.Mathlib.Omega.{arith}
 use Rattle.records.specs.View.{Held}
-use Rattle.art.specs.Tags.{Tag, Listing, Less, tag-dec, exact, fits-dec}
+use Rattle.art.specs.Tags.{Tag, Listing, Less, tag-dec}
 use Rattle.art.specs.Listings.{Every, lookup}
 use Rattle.art.specs.Puts.{less-dec, put, alter, leave}
 use Rattle.art.proofs.ReadBack.{some-inj}
@@ -95,12 +95,12 @@ others-kept b k (delete tag) scratch h t bytes ne q r = ap (λ a. toldBy (found 
 -- ── on any memory: an accepted insert is found with its total, an accepted delete is not found ──
 module _ {A : Type 0} where
   put-held : (t : Tag) (a : A) (l : Listing A) → Every (λ u. t ≢ u) l → lookup t (put t a l) ≡ some a
-  put-held t a [] h = if-pos (fits-dec exact t t) refl _ _
+  put-held t a [] h = if-pos (tag-dec t t) refl _ _
   put-held t a (e ∷ l) h = go (less-dec t (e .0)) (put-held t a l (h .1))
     where
       go : (d : Dec (Less t (e .0))) → lookup t (put t a l) ≡ some a → lookup t (ite {C = Listing A} d ((t, a) ∷ e ∷ l) (e ∷ put t a l)) ≡ some a
-      go (yes k) ih = if-pos (fits-dec exact t t) refl _ _
-      go (no k) ih = if-neg (fits-dec exact t (e .0)) (h .0) _ _ ∙ ih
+      go (yes k) ih = if-pos (tag-dec t t) refl _ _
+      go (no k) ih = if-neg (tag-dec t (e .0)) (h .0) _ _ ∙ ih
 
   alter-held : (t : Tag) (a o : A) (l : Listing A) → lookup t l ≡ some o → lookup t (alter (λ x. some a) t l) ≡ some a
   alter-held t a o [] h = let z : _≡_ {A = ℕ} 0 1 = cc in absurd (omega arith)
@@ -108,8 +108,8 @@ module _ {A : Type 0} where
     where
       go : (d : Dec (t ≡ e .0)) → (lookup t l ≡ some o → lookup t (alter (λ x. some a) t l) ≡ some a)
           → lookup t (ite {C = Listing A} d ((e .0, a) ∷ alter (λ x. some a) t l) (e ∷ alter (λ x. some a) t l)) ≡ some a
-      go (yes k) ih = if-pos (fits-dec exact t (e .0)) k _ _
-      go (no k) ih = if-neg (fits-dec exact t (e .0)) k _ _ ∙ ih (sym (if-neg (fits-dec exact t (e .0)) k _ _) ∙ h)
+      go (yes k) ih = if-pos (tag-dec t (e .0)) k _ _
+      go (no k) ih = if-neg (tag-dec t (e .0)) k _ _ ∙ ih (sym (if-neg (tag-dec t (e .0)) k _ _) ∙ h)
 
   leave-unheld : (t : Tag) (l : Listing A) → lookup t (leave t l) ≡ none
   leave-unheld t [] = refl
@@ -117,7 +117,7 @@ module _ {A : Type 0} where
     where
       go : (d : Dec (t ≡ e .0)) → lookup t (leave t l) ≡ none → lookup t (ite {C = Listing A} d (leave t l) (e ∷ leave t l)) ≡ none
       go (yes k) ih = ih
-      go (no k) ih = if-neg (fits-dec exact t (e .0)) k _ _ ∙ ih
+      go (no k) ih = if-neg (tag-dec t (e .0)) k _ _ ∙ ih
 
 insert-lookup : (t : Tag) (total : ℕ) (l : Listing ℕ) (o : Option ℕ) → lookup t l ≡ o → lookup t (amended l (effect (insert t total) o)) ≡ some total
 insert-lookup t total l none e = put-held t total l (new-lookup t l e)

@@ -1,12 +1,14 @@
 -- What the answers claim is what the calls and their numbers define; so what the story of a history says holds by the ledger.
 use Prim.Native.Nat.{ℕ, zero, suc}
 use mathlib.Core.Path.{_≡_, refl, sym, ap, subst, _∙_}
+use mathlib.Core.Logic.{ite}
 use mathlib.Core.List.{List, [], _∷_}
 use mathlib.Core.Option.{Option, none, some}
 use native.Mathlib.Omega.{arith}
 use Rattle.frames.specs.declared.frame.Caps.{Caps}
-use Rattle.art.specs.Tags.{Tag, Listing}
-use Rattle.art.specs.Listings.{lookup}
+use Rattle.art.specs.Tags.{Tag, Listing, tag-dec}
+use Rattle.art.specs.Listings.{Sorted, lookup}
+use Rattle.art.specs.Puts.{put, leave}
 use Rattle.art.specs.Deletes.{held}
 use Rattle.pools.specs.Start.{startNumber, startOf}
 use Rattle.pools.specs.declared.start.Started.{Started}
@@ -26,11 +28,13 @@ use Rattle.demands.specs.Histories.{Block, Turn, lent, next, Change, sta
 use Rattle.demands.specs.Accepts.{effect}
 use Rattle.demands.specs.Told.{toldBy}
 use Rattle.demands.specs.Story.{Story}
-use Rattle.demands.specs.Ledger.{Ledger, ledger, with-total, accepted, entered}
+use Rattle.demands.specs.Ledger.{Ledger, ledger, without, with-total, accepted, entered}
 use Rattle.demands.specs.Programs.{seen, afterBy, ledgerBy, Always}
-use Rattle.demands.proofs.Steps.{step-sound, step-counts, start-sound}
+use Rattle.demands.proofs.Steps.{held-sorted, step-sound, step-counts, start-sound}
 use Rattle.demands.proofs.KeyBytes.{start-bytes, step-bytes}
 use Rattle.demands.proofs.Histories.{sound-story}
+use Rattle.demands.proofs.Totals.{totals-sorted}
+use Rattle.demands.proofs.Orderless.{put-over}
 use Rattle.demands.proofs.Corollaries.{insert-does}
 
 -- its counts
@@ -50,23 +54,27 @@ start-entered : (form : ℕ) (c : Caps) (k : Ledger) (a : Started) → entered (
 start-entered form c k started.Done = refl
 start-entered form c k started.Refused = refl
 
-effect-entered : (t : Tag) (total : ℕ) (o : Option ℕ) (k : Ledger) → with-total t total o k ≡ changed k (effect (insert t total) o)
-effect-entered t total none k = refl
-effect-entered t total (some old) k = refl
+without-leave : (t : Tag) (l : Listing ℕ) → without t l ≡ leave t l
+without-leave t [] = refl
+without-leave t (e ∷ l) = ap (λ (r : Listing ℕ). ite (tag-dec t (e .0)) r (e ∷ r)) (without-leave t l)
 
-insert-entered : (t : Tag) (total : ℕ) (k : Ledger) (a : Inserted) → (insert-answer.numberOf a ≡ 0 → insertChange t total a ≡ effect (insert t total) (lookup t (k .list)))
+effect-entered : (t : Tag) (total : ℕ) (o : Option ℕ) (k : Ledger) → Sorted (k .list) → lookup t (k .list) ≡ o → with-total t total o k ≡ changed k (effect (insert t total) o)
+effect-entered t total none k h e = refl
+effect-entered t total (some old) k h e = ap (λ (l : Listing ℕ). ledger l (k .inserts) (k .deletes)) (ap (put t total) (without-leave t (k .list)) ∙ put-over t total old (k .list) h e)
+
+insert-entered : (t : Tag) (total : ℕ) (k : Ledger) → Sorted (k .list) → (a : Inserted) → (insert-answer.numberOf a ≡ 0 → insertChange t total a ≡ effect (insert t total) (lookup t (k .list)))
     → entered (insert-answer.numberOf a) (edit (insert t total)) k ≡ changed k (insertChange t total a)
-insert-entered t total k inserted.New h = effect-entered t total (lookup t (k .list)) k ∙ ap (changed k) (sym (h refl))
-insert-entered t total k (inserted.Over old) h = effect-entered t total (lookup t (k .list)) k ∙ ap (changed k) (sym (h refl))
-insert-entered t total k inserted.TooLong h = refl
-insert-entered t total k inserted.Clash h = refl
-insert-entered t total k inserted.NoLeaf h = refl
-insert-entered t total k inserted.NoRecord h = refl
-insert-entered t total k inserted.Damaged h = refl
-insert-entered t total k inserted.ShortScratch h = refl
+insert-entered t total k o inserted.New h = effect-entered t total (lookup t (k .list)) k o refl ∙ ap (changed k) (sym (h refl))
+insert-entered t total k o (inserted.Over old) h = effect-entered t total (lookup t (k .list)) k o refl ∙ ap (changed k) (sym (h refl))
+insert-entered t total k o inserted.TooLong h = refl
+insert-entered t total k o inserted.Clash h = refl
+insert-entered t total k o inserted.NoLeaf h = refl
+insert-entered t total k o inserted.NoRecord h = refl
+insert-entered t total k o inserted.Damaged h = refl
+insert-entered t total k o inserted.ShortScratch h = refl
 
 delete-entered : (t : Tag) (k : Ledger) (a : Deleted) → entered (delete-answer.numberOf a) (edit (delete t)) k ≡ changed k (deleteChange t a)
-delete-entered t k (deleted.Gone total) = refl
+delete-entered t k (deleted.Gone total) = ap (λ (l : Listing ℕ). ledger l (k .inserts) (suc (k .deletes))) (without-leave t (k .list))
 delete-entered t k deleted.Missing = refl
 delete-entered t k deleted.Damaged = refl
 delete-entered t k deleted.ShortScratch = refl
@@ -77,7 +85,7 @@ call-entered {words} {keys} s kb (start form c) r h k e = start-entered form c k
 call-entered {words} {keys} s kb (query q) r h k e = entered-same (toldBy (run (query q) (record { words = words; keys = keys; scratch = r }) .answer) .number) (query q) k refl
 call-entered {words} {keys} s kb (ask a) r h k e = entered-same (toldBy (run (ask a) (record { words = words; keys = keys; scratch = r }) .answer) .number) (ask a) k refl
 call-entered {words} {keys} s kb (edit (insert t total)) r h k e =
-    insert-entered t total k (insertOf words keys r t total .answer) (λ z. insert-does s r t total h kb z ∙ ap (λ (l : Listing ℕ). effect (insert t total) (lookup t l)) e)
+    insert-entered t total k (subst Sorted e (totals-sorted (held (s .tree)) (held-sorted (s .tree) (s .good)))) (insertOf words keys r t total .answer) (λ z. insert-does s r t total h kb z ∙ ap (λ (l : Listing ℕ). effect (insert t total) (lookup t l)) e)
 call-entered {words} {keys} s kb (edit (delete t)) r h k e = delete-entered t k (deleteOf words keys r t .answer)
 
 -- ── any calls ──

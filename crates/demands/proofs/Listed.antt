@@ -4,8 +4,8 @@ use mathlib.Core.Path.{_≡_, refl, sym, ap, _∙_}
 use mathlib.Core.List.{List}
 use mathlib.Core.Option.{Option, none, some}
 use Rattle.records.specs.View.{Held}
-use Rattle.art.specs.Tags.{Tag, exact, begin}
-use Rattle.art.specs.Listings.{find, lookup}
+use Rattle.art.specs.Tags.{Tag}
+use Rattle.art.specs.Listings.{lookup, lookup-begun}
 use Rattle.art.specs.Orders.{first-of, last-of, after}
 use Rattle.tree.specs.declared.answer.Found.{Found}
 use Rattle.tree.specs.declared.answer.Facts.{Facts}
@@ -67,8 +67,8 @@ tag b = toldBy (calls.tag b)
 pub listed-by : (s : Slices) (z : Sound (s .words) (s .keys)) (c : Call) → CallBytes c → Suffices c s → Listed z c (toldBy (run c s .answer))
 unfolding afterOf
 listed-by s z (calls.start form c) b r = tt
-listed-by s z (calls.query (calls.search t)) b r = ap found (sound-reads z .search t b) ∙ found-told (find exact t (holds z))
-listed-by s z (calls.query (calls.prefix-search t)) b r = ap found (sound-reads z .prefix-search t b) ∙ found-told (find begin t (holds z))
+listed-by s z (calls.query (calls.search t)) b r = ap found (sound-reads z .search t b) ∙ found-told (lookup t (holds z))
+listed-by s z (calls.query (calls.prefix-search t)) b r = ap found (sound-reads z .prefix-search t b) ∙ found-told (lookup-begun t (holds z))
 listed-by s z (calls.query calls.minimum) b r = ap found (sound-reads z .minimum) ∙ found-told (first-of (holds z))
 listed-by s z (calls.query calls.maximum) b r = ap found (sound-reads z .maximum) ∙ found-told (last-of (holds z))
 listed-by s z (calls.query (calls.next-leaf n)) b r =

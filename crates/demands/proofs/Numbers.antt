@@ -54,9 +54,9 @@ use Rattle.demands.specs.Calls.{Query, search, prefix-search, minimum, m
 use Rattle.demands.specs.Calls.{Call, start, query, ask, edit, Slices, given, checks, run}
 use Rattle.demands.specs.Told.{Told, toldBy, number}
 use Rattle.demands.specs.Histories.{CallBytes}
-use Rattle.demands.specs.Listed.{holds, Suffices, Listed}
+use Rattle.demands.specs.Listed.{holds, Enough, Suffices, Listed}
 use Rattle.demands.specs.Due as due
-use Rattle.demands.specs.Due.{Unframed, Fitting, Enough, InUse, obeys, nextRef, namesLeaf, nextNamed, Numbered, OnLeaf, of-next, of-facts, Due}
+use Rattle.demands.specs.Due.{Unframed, Fitting, InUse, obeys, nextRef, namesLeaf, nextNamed, Numbered, OnLeaf, of-next, of-facts, Due}
 use Rattle.demands.specs.Tests.{Short, Passed}
 use Rattle.demands.proofs.Inserted.{inserts-same}
 use Rattle.demands.proofs.Listed.{listed-by}

@@ -3,19 +3,21 @@ use Prim.Native.Nat.{ℕ}
 use mathlib.Core.Path.{_≡_, refl, sym, ap, subst, _∙_}
 use mathlib.Core.Logic.{_≢_, ite, if-pos, if-neg}
 use mathlib.Core.List.{[], _∷_}
-use mathlib.Core.Option.{none, some}
+use mathlib.Core.Option.{Option, none, some}
 use native.Mathlib.Omega.{arith}
-use Rattle.art.specs.Tags.{Tag, Listing, Before, tag-dec, exact, fits-dec, Fits}
+use Rattle.art.specs.Tags.{Tag, Listing, Before, Less, tag-dec}
 use Rattle.art.specs.Listings.{Every, Sorted, lookup}
+use Rattle.art.specs.Puts.{less-dec, put, alter, leave}
 use Rattle.art.specs.Deletes.{held}
 use Rattle.art.specs.Drawings.{draw}
 use Rattle.art.proofs.Tags.{before-less}
 use Rattle.art.proofs.Listings.{every-imp}
+use Rattle.art.proofs.Puts.{alter-none}
 use Rattle.art.proofs.ReadBack.{some-inj}
 use Rattle.demands.specs.Histories.{Block, Tally}
 use Rattle.demands.specs.Drawn.{drawingOf}
 use Rattle.demands.specs.Story.{Story}
-use Rattle.demands.proofs.Swaps.{less-not-self, less-not-back, lookup-new}
+use Rattle.demands.proofs.Swaps.{less-not-self, less-not-back, lookup-new, put-first}
 use Rattle.demands.proofs.Totals.{totals-sorted}
 
 module _ {A : Type 0} where
@@ -23,18 +25,36 @@ module _ {A : Type 0} where
   some-none a e = let z : _≡_ {A = ℕ} 0 1 = cc in omega arith
 
   head-found : (e : Tag × A) (l : Listing A) → lookup (e .0) (e ∷ l) ≡ some (e .1)
-  head-found e l = if-pos (fits-dec exact (e .0) (e .0)) refl _ _
+  head-found e l = if-pos (tag-dec (e .0) (e .0)) refl _ _
 
   tail-found : (t : Tag) (e : Tag × A) (l : Listing A) → t ≢ e .0 → lookup t (e ∷ l) ≡ lookup t l
-  tail-found t e l ne = if-neg (fits-dec exact t (e .0)) ne _ _
+  tail-found t e l ne = if-neg (tag-dec t (e .0)) ne _ _
 
   every-lookup : (P : Tag → Type 0) (s : Tag) (a : A) (l : Listing A) → Every P l → lookup s l ≡ some a → P s
   every-lookup P s a [] h e = absurd (some-none a (sym e))
-  every-lookup P s a (x ∷ l) h e = go (fits-dec exact s (x .0)) e (every-lookup P s a l (h .1))
+  every-lookup P s a (x ∷ l) h e = go (tag-dec s (x .0)) e (every-lookup P s a l (h .1))
     where
-      go : (d : Dec (Fits exact s (x .0))) → ite d (some (x .1)) (lookup s l) ≡ some a → (lookup s l ≡ some a → P s) → P s
+      go : (d : Dec (s ≡ x .0)) → ite d (some (x .1)) (lookup s l) ≡ some a → (lookup s l ≡ some a → P s) → P s
       go (yes i) e ih = subst P (sym i) (h .0)
       go (no n) e ih = ih e
+
+  -- a held tag put in anew is the entry changed
+  pub put-over : (t : Tag) (a o : A) (l : Listing A) → Sorted l → lookup t l ≡ some o → put t a (leave t l) ≡ alter (λ y. some a) t l
+  put-over t a o [] h e = absurd (some-none o (sym e))
+  put-over t a o (x ∷ l) h e = go (tag-dec t (x .0)) e (put-over t a o l (h .1))
+    where
+      after : t ≡ x .0 → Every (Before t) l
+      after q = subst (λ (z : Tag). Every (Before z) l) (sym q) (h .0)
+
+      other : t ≡ x .0 → Every (λ u. t ≢ u) l
+      other q = every-imp (Before t) (λ u. t ≢ u) (λ u b r. less-not-self t (before-less t t (subst (Before t) (sym r) b))) l (after q)
+
+      go : (d : Dec (t ≡ x .0)) → ite {C = Option A} d (some (x .1)) (lookup t l) ≡ some o → (lookup t l ≡ some o → put t a (leave t l) ≡ alter (λ y. some a) t l)
+          → put t a (ite {C = Listing A} d (leave t l) (x ∷ leave t l)) ≡ ite {C = Listing A} d ((x .0, a) ∷ alter (λ y. some a) t l) (x ∷ alter (λ y. some a) t l)
+      go (yes q) i ih =
+          let same = alter-none (λ y. some a) t l (other q) in
+          ap (put t a) (alter-none (λ y. none) t l (other q)) ∙ put-first t a l (every-imp (Before t) (Less t) (before-less t) l (after q)) ∙ (λ j. (q j, a) ∷ sym same j)
+      go (no n) i ih = if-neg (less-dec t (x .0)) (less-not-back (x .0) t (before-less (x .0) t (every-lookup (Before (x .0)) t o l (h .0) i))) _ _ ∙ ap (λ (r : Listing A). x ∷ r) (ih i)
 
   before-new : (s : Tag) (l : Listing A) → Every (Before s) l → lookup s l ≡ none
   before-new s l h = lookup-new s l (every-imp (Before s) (λ t. s ≢ t) (λ t b q. less-not-self s (before-less s s (subst (Before s) (sym q) b))) l h)

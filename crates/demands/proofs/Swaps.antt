@@ -5,11 +5,11 @@ use mathlib.Core.Logic.{_≢_, inl, inr, ite, if-pos, if-neg}
 use mathlib.Core.List.{[], _∷_}
 use mathlib.Core.Option.{Option, none, some}
 use native.Mathlib.Omega.{arith}
-use Rattle.art.specs.Tags.{Tag, Listing, Before, Less, Order, order, below, equal, above, tag-dec, exact, fits-dec, Fits}
+use Rattle.art.specs.Tags.{Tag, Listing, Before, Less, Order, order, below, equal, above, tag-dec, exact}
 use Rattle.art.specs.Listings.{Every, Sorted, lookup}
 use Rattle.art.specs.Puts.{less-dec, put, keep, alter, leave}
 use Rattle.art.proofs.Tags.{before-less}
-use Rattle.art.proofs.Listings.{every-imp, find-none}
+use Rattle.art.proofs.Listings.{every-imp, find-none, find-exact}
 use Rattle.art.proofs.Puts.{alter-none}
 
 -- ── the order ──
@@ -74,13 +74,13 @@ module _ {A : Type 0} where
       go (no k) ih h = (λ q. before-not-self s (subst (λ (t : Tag). Before t s) (sym q) (every-put (Before (e .0)) s a l (h .0) .0)), ih (h .1))
 
   pub lookup-new : (s : Tag) (l : Listing A) → Every (λ t. s ≢ t) l → lookup s l ≡ none
-  lookup-new s l h = find-none exact s l h
+  lookup-new s l h = sym (find-exact s l) ∙ find-none exact s l h
 
   pub new-lookup : (s : Tag) (l : Listing A) → lookup s l ≡ none → Every (λ t. s ≢ t) l
   new-lookup s [] h = tt
-  new-lookup s (e ∷ l) h = go (fits-dec exact s (e .0)) (new-lookup s l) h
+  new-lookup s (e ∷ l) h = go (tag-dec s (e .0)) (new-lookup s l) h
     where
-      go : (d : Dec (Fits exact s (e .0))) → (lookup s l ≡ none → Every (λ t. s ≢ t) l) → ite {C = Option A} d (some (e .1)) (lookup s l) ≡ none → Every (λ t. s ≢ t) (e ∷ l)
+      go : (d : Dec (s ≡ e .0)) → (lookup s l ≡ none → Every (λ t. s ≢ t) l) → ite {C = Option A} d (some (e .1)) (lookup s l) ≡ none → Every (λ t. s ≢ t) (e ∷ l)
       go (yes k) ih h = let z : _≡_ {A = ℕ} 0 1 = cc in absurd (omega arith)
       go (no k) ih h = (k, ih h)
 
@@ -95,27 +95,27 @@ module _ {A : Type 0} where
 
   -- ── what is held for another tag ──
   pub lookup-put : (s t : Tag) → s ≢ t → (b : A) (l : Listing A) → lookup s (put t b l) ≡ lookup s l
-  lookup-put s t ne b [] = if-neg (fits-dec exact s t) ne _ _
+  lookup-put s t ne b [] = if-neg (tag-dec s t) ne _ _
   lookup-put s t ne b (e ∷ l) = go (less-dec t (e .0)) (lookup-put s t ne b l)
     where
       go : (d : Dec (Less t (e .0))) → lookup s (put t b l) ≡ lookup s l → lookup s (ite {C = Listing A} d ((t, b) ∷ e ∷ l) (e ∷ put t b l)) ≡ lookup s (e ∷ l)
-      go (yes k) ih = if-neg (fits-dec exact s t) ne _ _
-      go (no k) ih = ap (λ (o : Option A). ite (fits-dec exact s (e .0)) (some (e .1)) o) ih
+      go (yes k) ih = if-neg (tag-dec s t) ne _ _
+      go (no k) ih = ap (λ (o : Option A). ite (tag-dec s (e .0)) (some (e .1)) o) ih
 
   lookup-keep : (s t : Tag) → s ≢ t → (o : Option A) (l : Listing A) → lookup s (keep t o l) ≡ lookup s l
   lookup-keep s t ne none l = refl
-  lookup-keep s t ne (some a) l = if-neg (fits-dec exact s t) ne _ _
+  lookup-keep s t ne (some a) l = if-neg (tag-dec s t) ne _ _
 
   pub lookup-alter : (s t : Tag) → s ≢ t → (g : A → Option A) (l : Listing A) → lookup s (alter g t l) ≡ lookup s l
   lookup-alter s t ne g [] = refl
   lookup-alter s t ne g (e ∷ l) = go (tag-dec t (e .0)) (lookup-alter s t ne g l)
     where
       go : (d : Dec (t ≡ e .0)) → lookup s (alter g t l) ≡ lookup s l → lookup s (ite {C = Listing A} d (keep (e .0) (g (e .1)) (alter g t l)) (e ∷ alter g t l)) ≡ lookup s (e ∷ l)
-      go (yes k) ih = lookup-keep s (e .0) (λ q. ne (q ∙ sym k)) (g (e .1)) (alter g t l) ∙ ih ∙ sym (if-neg (fits-dec exact s (e .0)) (λ q. ne (q ∙ sym k)) _ _)
-      go (no k) ih = ap (λ (o : Option A). ite (fits-dec exact s (e .0)) (some (e .1)) o) ih
+      go (yes k) ih = lookup-keep s (e .0) (λ q. ne (q ∙ sym k)) (g (e .1)) (alter g t l) ∙ ih ∙ sym (if-neg (tag-dec s (e .0)) (λ q. ne (q ∙ sym k)) _ _)
+      go (no k) ih = ap (λ (o : Option A). ite (tag-dec s (e .0)) (some (e .1)) o) ih
 
   -- ── two tags put in ──
-  put-first : (s : Tag) (a : A) (l : Listing A) → Every (Less s) l → put s a l ≡ (s, a) ∷ l
+  pub put-first : (s : Tag) (a : A) (l : Listing A) → Every (Less s) l → put s a l ≡ (s, a) ∷ l
   put-first s a [] h = refl
   put-first s a (e ∷ l) h = if-pos (less-dec s (e .0)) (h .0) _ _
 

@@ -6,7 +6,7 @@ use mathlib.Core.List.{[], _∷_, _++_}
 use mathlib.Core.Option.{Option, none, some}
 use lib.ListN.{length}
 use Rattle.records.specs.View.{Held}
-use Rattle.art.specs.Tags.{Tag, Listing, Less, Before, tag-dec, exact, fits-dec, Fits}
+use Rattle.art.specs.Tags.{Tag, Listing, Less, Before, tag-dec}
 use Rattle.art.specs.Listings.{Every, Sorted, under, lookup}
 use Rattle.art.specs.Puts.{less-dec, put, keep, alter}
 use Rattle.art.specs.Trees.{Tree, leaf, inner, Row, end, child, contents, row-contents, Good, GoodRow, Above, count}
@@ -63,9 +63,9 @@ totals-alter g k same s (e ∷ l) = go (tag-dec s (e .0)) (totals-alter g k same
 
 pub totals-lookup : (s : Tag) (l : Listing Held) → lookup s (totals l) ≡ total-of (lookup s l)
 totals-lookup s [] = refl
-totals-lookup s (e ∷ l) = go (fits-dec exact s (e .0)) (totals-lookup s l)
+totals-lookup s (e ∷ l) = go (tag-dec s (e .0)) (totals-lookup s l)
   where
-    go : (d : Dec (Fits exact s (e .0))) → lookup s (totals l) ≡ total-of (lookup s l) → ite {C = Option ℕ} d (some (e .1 .total)) (lookup s (totals l)) ≡ total-of (ite {C = Option Held} d (some (e .1)) (lookup s l))
+    go : (d : Dec (s ≡ e .0)) → lookup s (totals l) ≡ total-of (lookup s l) → ite {C = Option ℕ} d (some (e .1 .total)) (lookup s (totals l)) ≡ total-of (ite {C = Option Held} d (some (e .1)) (lookup s l))
     go (yes h) ih = refl
     go (no h) ih = ih
 

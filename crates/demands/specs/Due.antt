@@ -1,6 +1,6 @@
 -- The numbers given back, a table by class of call, then by call: each row has its condition, and that none earlier applies. What a call tells on a sound
 -- block, past the whole check, is in `Listed`.
-use Prim.Native.Nat.{ℕ, _≤_}
+use Prim.Native.Nat.{ℕ}
 use mathlib.Core.Path.{_≡_}
 use mathlib.Core.Logic.{_≢_}
 use mathlib.Core.List.{List}
@@ -18,15 +18,14 @@ use Rattle.art.specs.Stores.{Place, leaf-place, inner-place}
 use Rattle.pools.specs.Start.{startFitsIn}
 use Rattle.tree.specs.declared.lookup.Aim.the-variants.{Exact, Begin}
 use Rattle.tree.specs.declared.minmax.Edge.the-variants.{Low, High}
-use Rattle.whole.specs.Marks.{placesIn}
 use Rattle.whole.specs.Sound.{Sound}
 use Rattle.insert.specs.Insert.{tooLong}
 use Rattle.demands.specs.Calls.{Query, search, prefix-search, minimum, maximum, next-leaf, leaf-facts, leaf-tag, insert, Call, start, query, edit, Slices, checks}
 use Rattle.demands.specs.Told.{Told}
-use Rattle.demands.specs.Listed.{Listed}
+use Rattle.demands.specs.Listed.{Enough, Listed}
 use Rattle.demands.specs.Way.{Gives, Ends}
 
--- ── the frame, and scratch ──
+-- ── the frame ──
 -- 6: the frame does not fit
 abbrev pub Unframed : Slices → Type 0
 Unframed s = frameFits (s .words) (s .keys) ≡ false
@@ -34,10 +33,6 @@ Unframed s = frameFits (s .words) (s .keys) ≡ false
 -- it fits
 abbrev pub Fitting : Slices → Type 0
 Fitting s = frameFits (s .words) (s .keys) ≡ true
-
--- there is a byte of scratch for each record
-abbrev pub Enough : Slices → Type 0
-Enough s = placesIn (frame (s .words)) ≤ length (s .scratch)
 
 -- ── a leaf number ──
 -- a leaf of the pool that is not free

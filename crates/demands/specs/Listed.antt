@@ -7,8 +7,8 @@ use mathlib.Core.Bool.{true, false}
 use lib.ListN.{length, getD}
 use Rattle.frames.specs.Frame.{frame}
 use Rattle.records.specs.View.{Held}
-use Rattle.art.specs.Tags.{Tag, Listing, exact, begin}
-use Rattle.art.specs.Listings.{find, lookup, Clashes}
+use Rattle.art.specs.Tags.{Tag, Listing}
+use Rattle.art.specs.Listings.{lookup, lookup-begun, Clashes}
 use Rattle.art.specs.Members.{In}
 use Rattle.art.specs.Deletes.{held}
 use Rattle.art.specs.Orders.{first-of, last-of, after}
@@ -29,12 +29,16 @@ holds s = held (s .tree)
 abbrev pub Full : {words keys : List ℕ} → Sound words keys → Type 0
 Full {words} s = length (holds s) ≡ getD (frame words .caps) 5 0
 
--- where a call takes scratch, there is a byte for each record
+-- there is a byte of scratch for each record
+abbrev pub Enough : Slices → Type 0
+Enough s = placesIn (frame (s .words)) ≤ length (s .scratch)
+
+-- where a call takes scratch, there is enough
 abbrev pub Suffices : Call → Slices → Type 0
 Suffices (calls.start form c) s = Unit {0}
 Suffices (calls.query q) s = Unit {0}
-Suffices (calls.ask a) s = placesIn (frame (s .words)) ≤ length (s .scratch)
-Suffices (calls.edit e) s = placesIn (frame (s .words)) ≤ length (s .scratch)
+Suffices (calls.ask a) s = Enough s
+Suffices (calls.edit e) s = Enough s
 
 -- 0 with the total of what is held, or 1
 abbrev pub takes : Option Held → Told
@@ -59,8 +63,8 @@ pub record InsertsListed {words keys : List ℕ} (s : Sound words keys) (t : Tag
 -- the first entry that is not below; insert and delete by what is held for the tag. Start does not ask the list
 abbrev pub Listed : {words keys : List ℕ} → Sound words keys → Call → Told → Type 0
 Listed s (calls.start form c) a = Unit {0}
-Listed s (calls.query (calls.search t)) a = a ≡ finds (find exact t (holds s))
-Listed s (calls.query (calls.prefix-search t)) a = a ≡ finds (find begin t (holds s))
+Listed s (calls.query (calls.search t)) a = a ≡ finds (lookup t (holds s))
+Listed s (calls.query (calls.prefix-search t)) a = a ≡ finds (lookup-begun t (holds s))
 Listed s (calls.query calls.minimum) a = a ≡ finds (first-of (holds s))
 Listed s (calls.query calls.maximum) a = a ≡ finds (last-of (holds s))
 Listed s (calls.query (calls.next-leaf n)) a =

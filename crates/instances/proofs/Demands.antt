@@ -9,8 +9,8 @@ use native.Mathlib.Omega.{arith}
 use lib.ListN.{replicate}
 use Rattle.frames.specs.Frame.{frameFits, frame}
 use Rattle.records.specs.View.{Held}
-use Rattle.art.specs.Tags.{Tag, Listing, exact}
-use Rattle.art.specs.Listings.{find, lookup}
+use Rattle.art.specs.Tags.{Tag, Listing}
+use Rattle.art.specs.Listings.{lookup}
 use Rattle.art.specs.Orders.{after}
 use Rattle.art.specs.Verdicts.{judge}
 use Rattle.art.specs.Drawings.{one, branch, kid, done, draw}
@@ -134,11 +134,11 @@ on-two c = toldBy (answered two (record { call = c; scratch = replicate 3 1 }))
 
 B-listed : on-two (query (search B)) ≡ withLeaf 1 (withTotal 8 (only 0))
 unfolding opened
-B-listed = demands .on-sound (lend two 3) two-sound (query (search B)) (tag-bytes B refl) tt ∙ ap (λ (l : Listing Held). finds (find exact B l)) two-holds
+B-listed = demands .on-sound (lend two 3) two-sound (query (search B)) (tag-bytes B refl) tt ∙ ap (λ (l : Listing Held). finds (lookup B l)) two-holds
 
 C-unlisted : on-two (query (search C)) ≡ only 1
 unfolding opened
-C-unlisted = demands .on-sound (lend two 3) two-sound (query (search C)) (tag-bytes C refl) tt ∙ ap (λ (l : Listing Held). finds (find exact C l)) two-holds
+C-unlisted = demands .on-sound (lend two 3) two-sound (query (search C)) (tag-bytes C refl) tt ∙ ap (λ (l : Listing Held). finds (lookup C l)) two-holds
 
 -- A with another total gives the old one, AB clashes, C has no leaf, and A goes out with its total
 inserted-listed : (t : Tag) → Bytes t → tooLong two-words two-keys t ≡ false → InsertsListed two-sound t (on-two (edit (insert t 9)))

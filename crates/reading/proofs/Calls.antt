@@ -1,4 +1,5 @@
 -- The reading calls on a block that shows a directory read the sorted list of what it holds; an empty block shows the directory that holds nothing.
+use mathlib.Core.Path.{ap, _∙_}
 use mathlib.Core.List.{List}
 use mathlib.Core.Option.{Option, none}
 use Prim.Native.Nat.{ℕ}
@@ -8,9 +9,11 @@ use Rattle.records.specs.View.{Held, cellOf}
 use Rattle.tree.specs.declared.lookup.Aim.the-variants.{Exact, Begin}
 use Rattle.art.specs.Trees.{Tree}
 use Rattle.art.specs.Deletes.{held}
+use Rattle.art.proofs.Listings.{find-exact, find-begin}
 use Rattle.art.proofs.Stores.{used-not}
 use Rattle.view.specs.Empty.{Empty}
 use Rattle.view.specs.Links.{linksOf}
+use Rattle.reading.specs.Answers.{answerOf}
 use Rattle.reading.specs.Shown.{Shown}
 use Rattle.reading.specs.Calls.{Reads}
 use Rattle.reading.proofs.Entries.{held-sorted}
@@ -22,11 +25,11 @@ use Rattle.reading.proofs.Frees.{next-free, facts-free, tag-free}
 -- On every sound block: search finds a tag exactly when it is held, with its last total and its leaf; prefix search finds the one that the given
 -- bytes begin with; minimum, maximum and next leaf answer as the sorted list; walking by next leaf from the minimum lists every tag once, in order.
 pub reads-shown : {f : Frame} {words keys : List ℕ} {d : Option (Tree Held)} → Shown f words keys d → Reads words keys (held d)
-reads-shown s =
+reads-shown {d = d} s =
     record {
       order = held-sorted s;
-      search = λ tag bytes. find-shown s tag bytes Exact;
-      prefix-search = λ tag bytes. find-shown s tag bytes Begin;
+      search = λ tag bytes. find-shown s tag bytes Exact ∙ ap answerOf (find-exact tag (held d));
+      prefix-search = λ tag bytes. find-shown s tag bytes Begin ∙ ap answerOf (find-begin tag (held d));
       minimum = minimum-shown s;
       maximum = maximum-shown s;
       next-leaf = next-shown s;

@@ -10,8 +10,8 @@ use Rattle.tree.specs.Edge.{minimumOf, maximumOf}
 use Rattle.leaves.specs.Leaf.{nextLeafOf, factsOf, tagOf}
 use Rattle.tree.specs.declared.answer.Found.the-variants.{NoLeaf}
 use Rattle.tree.specs.declared.answer.Facts.the-variants as facts
-use Rattle.art.specs.Tags.{Tag, Listing, exact, begin}
-use Rattle.art.specs.Listings.{Sorted, find}
+use Rattle.art.specs.Tags.{Tag, Listing}
+use Rattle.art.specs.Listings.{Sorted, lookup, lookup-begun}
 use Rattle.art.specs.Members.{In}
 use Rattle.art.specs.Orders.{first-of, last-of}
 use Rattle.reading.specs.Answers.{Bytes, answerOf}
@@ -26,9 +26,9 @@ pub record Reads (words keys : List ℕ) (l : Listing Held) : Type 0 where
   -- each tag comes before all later ones, and begins none of them
   pub order : Sorted l
   -- search finds a tag exactly when it is held, with its last total and its leaf
-  pub search : (tag : List ℕ) → Bytes tag → searchOf words keys tag ≡ answerOf (find exact tag l)
+  pub search : (tag : List ℕ) → Bytes tag → searchOf words keys tag ≡ answerOf (lookup tag l)
   -- prefix search finds the one that the given bytes begin with
-  pub prefix-search : (tag : List ℕ) → Bytes tag → prefixSearchOf words keys tag ≡ answerOf (find begin tag l)
+  pub prefix-search : (tag : List ℕ) → Bytes tag → prefixSearchOf words keys tag ≡ answerOf (lookup-begun tag l)
   -- minimum and maximum are the first and the last
   pub minimum : minimumOf words keys ≡ answerOf (first-of l)
   pub maximum : maximumOf words keys ≡ answerOf (last-of l)
