@@ -2,11 +2,12 @@
 use Prim.Native.Nat.{ℕ, zero, suc, _+_, _-_}
 use mathlib.Core.Path.{_≡_, refl, sym, ap, _∙_}
 use mathlib.Core.List.{List, [], _∷_}
+use mathlib.Core.Bool.{Bool, true, false, true≢false}
 use native.Mathlib.Omega.{arith}
 use lib.ListN.{getD, length, replicate, set}
 use Rattle.records.specs.View.{Held}
-use Rattle.art.specs.Tags.{Listing, exact}
-use Rattle.art.specs.Listings.{find}
+use Rattle.art.specs.Tags.{Listing}
+use Rattle.art.specs.Listings.{lookup}
 use Rattle.art.specs.Drawings as drawn
 use Rattle.art.specs.Drawings.{Drawing}
 use Rattle.art.specs.Facts.{branchings}
@@ -21,14 +22,13 @@ use Rattle.demands.specs.Told.{Told, only, withLeaf}
 use Rattle.demands.specs.Histories.{Block, Turn, totals}
 use Rattle.demands.specs.Accepts.{turn}
 use Rattle.demands.specs.Due as due
-use Rattle.demands.specs.Listed.{holds}
-use Rattle.demands.specs.Listed.{finds}
+use Rattle.demands.specs.Listed.{holds, finds}
 use Rattle.demands.specs.Ledger.{Ledger}
 use Rattle.demands.specs.Programs.{Seen, Program, seen}
-use Rattle.demands.specs.Demands.{Numbers, Bare, Unchanged, OnSound, Holds, AsList, Draws, Counts}
+use Rattle.demands.specs.Demands.{Numbers, Bare, Unchanged, Still, Scratched, Framed, Tagged, OnSound, Holds, AsList, Draws, Branches, Counts, EitherOrder, Restored}
 use Rattle.demands.proofs.Corollaries.{one-tree}
 use Rattle.instances.specs.Opened.{opened}
-use Rattle.instances.specs.Blocks.{nothing, bare, two, caps, lend, A, B, C}
+use Rattle.instances.specs.Blocks.{nothing, bare, two, room, caps, lend, A, B, C}
 use Rattle.instances.proofs.Sounds.{bare-sound, spare-sound, bare-holds, spare-holds, two-holds}
 
 -- ── the programs ──
@@ -79,6 +79,14 @@ fixed = port-but (λ q s. replied (as-minimum q) s) as-is as-is
 abbrev chatty : Program
 chatty = port-but (λ q s. let o = replied q s in record { told = withLeaf (o .told .leaf + o .told .number) (o .told); slices = o .slices }) as-is as-is
 
+-- a query writes the first word
+abbrev rover : Program
+rover = port-but (λ q s. claimed (replied q s) (record { words = set (s .words) 0 9; keys = s .keys; scratch = s .scratch })) as-is as-is
+
+-- the call that gives a tag gives no byte of it
+abbrev nameless : Program
+nameless = port-but (λ q s. let o = replied q s in record { told = record { number = o .told .number; leaf = o .told .leaf; length = o .told .length; total = o .told .total; tag = [] }; slices = s }) as-is as-is
+
 -- an insert does nothing
 abbrev idle : Program
 idle = port-but replied claimed as-is
@@ -106,6 +114,13 @@ uncounted s = record { words = set (s .words) (length (s .words) - 2) 0; keys = 
 
 abbrev made-up : Program
 made-up = port-but replied (λ o s. claimed o (uncounted (o .slices))) as-is
+
+-- an insert leaves another form in the trailer's first word
+abbrev reformed : Slices → Slices
+reformed s = record { words = set (s .words) (length (s .words) - 16) 9; keys = s .keys; scratch = s .scratch }
+
+abbrev reformer : Program
+reformer = port-but replied (λ o s. claimed o (reformed (o .slices))) as-is
 
 -- ── one call ──
 a-bytes : Bytes A
@@ -135,11 +150,39 @@ scribbler-refuted h =
     let z : _≡_ {A = ℕ} 0 65 = ap (λ (k : List ℕ). getD k 0 0) (h (edit (insert C 9)) (lend two 3) (λ e. omega arith) .1) in
     omega arith
 
+-- asked for the minimum, the first record's kind would become 9
+pub rover-refuted : ¬ Still rover
+unfolding opened
+rover-refuted h =
+    let z : _≡_ {A = ℕ} 9 1 = ap (λ (w : List ℕ). getD w 0 0) (h (lend two 0) .0 minimum .0) in
+    omega arith
+
+-- scratch would be left as it was lent, where the check has written zeros
+pub identity-unscratched : ¬ Scratched identity
+unfolding opened
+identity-unscratched h =
+    let z : _≡_ {A = ℕ} 1 0 = ap (λ (r : List ℕ). getD r 0 0) (h (calls.ask calls.check) (lend two 3)) in
+    omega arith
+
+-- C would go in, and the frame fit no more
+pub reformer-refuted : ¬ Framed reformer
+unfolding opened
+reformer-refuted h =
+    let z : _≡_ {A = Bool} false true = h (edit (insert C 9)) (λ form k e. let y : _≡_ {A = ℕ} 0 1 = cc in omega arith) (tag-bytes C refl) (lend room 5) (tag-bytes (room .keys) refl) .1 in
+    true≢false (sym z)
+
+-- the tag A would come back with no byte
+pub nameless-refuted : ¬ Tagged nameless
+unfolding opened
+nameless-refuted h =
+    let z : _≡_ {A = ℕ} 0 1 = ap (λ (a : Told). length (a .tag)) (h 0 (lend two 0)) in
+    omega arith
+
 -- B would be found in the leaf of A
 pub fixed-refuted : ¬ OnSound fixed
 unfolding opened
 fixed-refuted h =
-    let z : _≡_ {A = ℕ} 0 1 = ap (λ (a : Told). a .leaf) (h (lend two 3) two-sound (query (search B)) b-bytes tt ∙ ap (λ (l : Listing Held). finds (find exact B l)) two-holds) in
+    let z : _≡_ {A = ℕ} 0 1 = ap (λ (a : Told). a .leaf) (h (lend two 3) two-sound (query (search B)) b-bytes tt ∙ ap (λ (l : Listing Held). finds (lookup B l)) two-holds) in
     omega arith
 
 -- ── calls after a start ──
@@ -187,7 +230,34 @@ first-only-undrawn h =
     let z : _≡_ {A = ℕ} 0 1 = ap (λ (d : Drawing ℕ). branchings d) (h before 1 (caps 2) [] refl put-both (a-bytes, (b-bytes, tt))) in
     omega arith
 
--- A would be held still, where it was put in and taken out
+-- and no inner record in use, where one is drawn
+pub first-only-unbranched : ¬ Branches first-only
+unfolding opened
+first-only-unbranched h =
+    let z : _≡_ {A = ℕ} 0 1 = h before 1 (caps 2) [] refl put-both (a-bytes, (b-bytes, tt)) in
+    omega arith
+
+-- A and then B would draw A, and B and then A would draw B
+pub first-only-ordered : ¬ EitherOrder first-only
+unfolding opened
+first-only-ordered h =
+    let r : List ℕ = replicate 3 1 in
+    let o = h bare bare-sound (tag-bytes (bare .keys) refl) (insert A 7) (insert B 8) a-bytes b-bytes (λ e. let y : _≡_ {A = ℕ} 65 66 = cc in omega arith) r r r r refl refl refl refl in
+    let e : _≡_ {A = Drawing ℕ} (drawn.one A 7) (drawn.one B 8) = o .2 in
+    let z : _≡_ {A = ℕ} 7 8 = cc in
+    omega arith
+
+-- A would be drawn still, where it was put in and taken out
+pub dropping-unrestored : ¬ Restored dropping
+unfolding opened
+dropping-unrestored h =
+    let r : List ℕ = replicate 3 1 in
+    let o = h bare bare-sound (tag-bytes (bare .keys) refl) A 7 a-bytes (ap (lookup A) bare-holds) r r refl refl in
+    let e : _≡_ {A = Drawing ℕ} (drawn.one A 7) drawn.nothing = o .1 in
+    let z : _≡_ {A = ℕ} 0 1 = cc in
+    omega arith
+
+-- and held
 pub dropping-refuted : ¬ AsList dropping
 unfolding opened
 dropping-refuted h =
