@@ -2,82 +2,102 @@
 """closure.py [-v] [FILE NAME]: the definitions that a statement rests on, by file, with their lines of code (no comments, no imports).
 FILE is a file below crates/ (demands/specs/Demands.antt) and NAME a definition there (Demands). Names are followed by reading the text:
 imports, the file's own names, and no name that a binder, a field or a `let` of the same definition hides. `-v` prints the names too.
-Types that a crate's source declares, and the names of the checker's own library, are counted apart, not followed. `fixed` counts lines of
-decisions (`Dec`, `Order`, `Meet`): whatever such a line says, its type lets no wrong answer through."""
-import os, re, sys
+Types that a crate's source declares, and the names of the checker's own library, are counted apart, not followed. Lines of decisions
+(`Dec`, `Discrete`, `Order`) are told apart: whatever such a line says, its type lets no wrong answer through."""
+import os
+import re
+import sys
+
 CRATES = os.path.join(os.path.dirname(os.path.dirname(os.path.abspath(__file__))), "crates")
 TOKEN = re.compile(r"[^\s(){}\[\],;]+")
+DECLARES = re.compile(r"(?:abbrev |unfoldable )*(?:pub )?(?:data |record )?([^\s:(){}=]+)\s+(?:[({].*?[)}]\s*)*:\s")
+CONSTRUCTORS = re.compile(r"([^\s:(){}=]+(?: [^\s:(){}=]+)*) :\s")
+DECIDES = re.compile(r"→ Dec [^→]*$|: Discrete |→ Order x y$")
+# what a call makes of the slices: not to be believed, since the theorem is what says that it is right
+OUTCOMES = "startOf searchOf prefixSearchOf minimumOf maximumOf nextLeafOf factsOf tagOf checkOf afterOf afterCheck insertOf deleteOf".split()
 files = {}
 
 
-def target(module):
-    """the file of a module of ours, 'declared' for a type of a source file, None for the library"""
-    if not module.startswith("Rattle·"):
-        return None
-    parts = module[len("Rattle·"):].split(".")
-    if parts[2:3] == ["declared"]:
-        return "declared"
-    return "%s/%s/%s.antt" % (parts[0].split("·")[0], parts[1], "/".join(parts[2:]))
+def depth(line):
+    return len(line) - len(line.lstrip())
+
+
+def is_module(part):
+    return part[0].strip().startswith("module _")
+
+
+def split(lines):
+    """The lines of a file in parts: a blank line ends one, and so does the end of a mutual block; a module's head is one of its own."""
+    parts, block = [[]], None
+    for line in lines:
+        code = re.sub(r"(^|\s)--.*", "", line).rstrip()
+        if not code or re.match(r"(pub )?(mod|use|infix) ", code):
+            if block is None:
+                parts.append([])
+            continue
+        if code.strip().startswith("module _"):
+            parts += [[code], []]
+            block = None
+            continue
+        if block is not None and depth(code) <= block:
+            block = None
+            parts.append([])
+        if re.match(r"\s*(abbrev )?mutual$", code):
+            block = depth(code)
+            parts.append([])
+        parts[-1].append(code)
+    return [p for p in parts if p]
+
+
+def joined(parts):
+    """A part that stands deeper than the one before it, and below no module, belongs to that one: a `where` after a blank line."""
+    whole = []
+    for part in parts:
+        if whole and depth(part[0]) > depth(whole[-1][0]) and not is_module(whole[-1]):
+            whole[-1] += part
+        else:
+            whole.append(list(part))
+    return whole
+
+
+def declared_in(part):
+    """The names that a part declares: its first line's, and in a mutual block or a data type those of the lines below."""
+    head = part[0].strip()
+    inside = head.endswith("mutual") or re.match(r"(pub )?data ", head)
+    for j, line in enumerate(part):
+        if j and not inside and depth(line) > depth(part[0]):
+            continue
+        line = line.strip() + " "
+        m = DECLARES.match(line) or (CONSTRUCTORS.match(line) if inside else None)
+        if m and (j == 0 or inside or not re.match(r"(pub )?record ", head)):
+            yield from m.group(1).split()
 
 
 class File:
+    """What a file imports, under which names, and where each of its own names is declared."""
+
     def __init__(self, path):
-        self.names, self.aliases, self.parts, self.where = {}, {}, [], {}
-        depth = None
-        for line in open(os.path.join(CRATES, path), encoding="utf8").read().split("\n"):
+        lines = open(os.path.join(CRATES, path), encoding="utf8").read().split("\n")
+        self.names, self.aliases, self.where = {}, {}, {}
+        for line in lines:
             m = re.match(r"use (\S+?)\.\{(.*)\}\s*$", line)
-            if m:
-                for name in m.group(2).split(","):
-                    a, _, b = name.strip().partition(" as ")
-                    self.names[b or a] = (m.group(1), a)
-                continue
+            for name in m.group(2).split(",") if m else []:
+                a, _, b = name.strip().partition(" as ")
+                self.names[b or a] = (m.group(1), a)
             m = re.match(r"use (\S+) as (\S+)\s*$", line)
             if m:
                 self.aliases[m.group(2)] = m.group(1)
-                continue
-            code = re.sub(r"(^|\s)--.*", "", line).rstrip()
-            if not code or re.match(r"(pub )?mod ", code):
-                if depth is None:
-                    self.parts.append([])
-                continue
-            if code.strip().startswith("module _"):
-                self.parts += [[code], []]
-                depth = None
-                continue
-            indent = len(code) - len(code.lstrip())
-            if depth is not None and indent <= depth:
-                depth = None
-                self.parts.append([])
-            if re.match(r"\s*(abbrev )?mutual$", code):
-                depth = indent
-                self.parts.append([])
-            if not self.parts:
-                self.parts.append([])
-            self.parts[-1].append(code)
-        whole = []
-        for part in filter(None, self.parts):
-            first = lambda p: len(p[0]) - len(p[0].lstrip())
-            if whole and first(part) > first(whole[-1]) and not whole[-1][0].strip().startswith("module _"):
-                whole[-1] += part
-            else:
-                whole.append(list(part))
-        self.parts = whole
-        for i, part in enumerate(whole):
-            head = part[0].strip()
-            if head.startswith("module _"):
-                continue
-            inside = head.endswith("mutual") or re.match(r"(pub )?data ", head)
-            base = len(part[0]) - len(part[0].lstrip())
-            for j, line in enumerate(part):
-                if j and not inside and len(line) - len(line.lstrip()) > base:
-                    continue
-                line = line.strip() + " "
-                m = re.match(r"(?:abbrev |unfoldable )*(?:pub )?(?:data |record )?([^\s:(){}=]+)\s+(?:[({].*?[)}]\s*)*:\s", line)
-                if m is None and inside:
-                    m = re.match(r"([^\s:(){}=]+(?: [^\s:(){}=]+)*) :\s", line)
-                if m and (j == 0 or inside or not re.match(r"(pub )?record ", head)):
-                    for name in m.group(1).split():
-                        self.where.setdefault(name, i)
+        self.parts = joined(split(lines))
+        for i, part in enumerate(self.parts):
+            for name in [] if is_module(part) else declared_in(part):
+                self.where.setdefault(name, i)
+
+    def target(self, word):
+        """The module and the name that a word of this file stands for, or None."""
+        if word in self.names:
+            return self.names[word]
+        alias, _, name = word.partition(".")
+        return (self.aliases[alias], name) if alias in self.aliases and name else None
 
 
 def load(path):
@@ -86,27 +106,29 @@ def load(path):
     return files[path]
 
 
+def file_of(module):
+    """The file of a module of ours, 'declared' for a type of a source file, None for the library."""
+    if not module.startswith("Rattle·"):
+        return None
+    parts = module[len("Rattle·"):].split(".")
+    return "declared" if parts[2:3] == ["declared"] else "%s/%s/%s.antt" % (parts[0].split("·")[0], parts[1], "/".join(parts[2:]))
+
+
 def hidden(part):
-    text = "\n".join(part)
-    out = set()
+    """The names that the part itself binds."""
+    text, out = "\n".join(part), set()
     for m in re.finditer(r"[({]\s*([^(){}:=.]*?)\s+:\s", text):
         out |= set(m.group(1).split())
     for m in re.finditer(r"λ\s*([^.:]*?)\.", text):
         out |= set(TOKEN.findall(m.group(1)))
     out |= set(re.findall(r"\blet\s+(\S+)\s*[:=]", text)) | set(re.findall(r"[{;]\s*([^\s;={}]+)\s*=", text))
     if re.match(r"(pub )?record ", part[0].strip()):
-        out |= set(m.group(1) for m in (re.match(r"\s+(?:pub )?(\S+)\s+:\s", line) for line in part[1:]) if m)
+        out |= {m.group(1) for m in (re.match(r"\s+(?:pub )?(\S+)\s+:\s", line) for line in part[1:]) if m}
     return out
 
 
-def tokens(part):
-    for line in part:
-        for word in TOKEN.findall(line):
-            if not word.startswith("."):
-                yield word.rstrip(".")
-
-
-def follow(path, name, stops):
+def follow(path, name):
+    """The parts that a name rests on, and the declared types and library names beside them."""
     todo, seen, declared, library = [(path, load(path).where[name])], set(), set(), set()
     while todo:
         at = todo.pop()
@@ -116,48 +138,38 @@ def follow(path, name, stops):
         f = load(at[0])
         part = f.parts[at[1]]
         hide = hidden(part)
-        for word in tokens(part):
-            if word in hide:
-                continue
+        words = {w.rstrip(".") for line in part for w in TOKEN.findall(line) if not w.startswith(".")}
+        for word in words - hide:
             if word in f.where:
-                to = (at[0], word)
-            elif word in f.names:
-                to = (target(f.names[word][0]), f.names[word][1])
-            elif word.partition(".")[0] in f.aliases and "." in word:
-                to = (target(f.aliases[word.partition(".")[0]]), word.partition(".")[2])
-            else:
+                todo.append((at[0], f.where[word]))
                 continue
-            if to[0] is None:
+            to = f.target(word)
+            if to is None:
+                continue
+            where = file_of(to[0])
+            if where is None:
                 library.add(to[1])
-            elif to[0] == "declared":
+            elif where == "declared":
                 declared.add(to[1])
-            elif (to[1] not in stops or to[0].startswith("demands/")) and to[1] in load(to[0]).where:
-                todo.append((to[0], load(to[0]).where[to[1]]))
+            elif (to[1] not in OUTCOMES or where.startswith("demands/")) and to[1] in load(where).where:
+                todo.append((where, load(where).where[to[1]]))
     return seen, declared, library
-
-
-# what a call makes of the slices: not to be believed, since the theorem is what says that it is right
-OUTCOMES = "startOf searchOf prefixSearchOf minimumOf maximumOf nextLeafOf factsOf tagOf checkOf afterOf afterCheck insertOf deleteOf".split()
-
-
-DECIDES = re.compile(r"→ Dec [^→]*$|: Discrete |→ Order x y$|→ Meet [^→]*$")
 
 
 def main():
     words = [w for w in sys.argv[1:] if w != "-v"]
     path, name = words if words else ("demands/specs/Demands.antt", "Demands")
-    seen, declared, library = follow(path, name, OUTCOMES)
-    by = {}
-    for p, i in seen:
-        by.setdefault(p, []).append(i)
+    seen, declared, library = follow(path, name)
     total = fixed = 0
-    for p in sorted(by):
-        lines = sum(len(load(p).parts[i]) for i in by[p])
+    for p in sorted({p for p, _ in seen}):
+        mine = [i for q, i in seen if q == p]
+        lines = sum(len(load(p).parts[i]) for i in mine)
         total += lines
-        fixed += sum(len(load(p).parts[i]) - 1 for i in by[p] if DECIDES.search(load(p).parts[i][0]))
-        names = " ".join(n for n, i in load(p).where.items() if i in by[p]) if "-v" in sys.argv else ""
+        fixed += sum(len(load(p).parts[i]) - 1 for i in mine if DECIDES.search(load(p).parts[i][0]))
+        names = " ".join(n for n, i in load(p).where.items() if i in mine) if "-v" in sys.argv else ""
         print("%5d  %s  %s" % (lines, p, names))
-    print("%5d  lines of %d files (%d of them fixed by their type), with %d declared types and %d names of the library" % (total, len(by), fixed, len(declared), len(library)))
+    print("%5d  lines of %d files, of which %d decide what their types say; with %d declared types and %d names of the library"
+          % (total, len({p for p, _ in seen}), fixed, len(declared), len(library)))
 
 
 main()

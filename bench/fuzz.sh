@@ -3,7 +3,7 @@
 #
 #   bench/fuzz.sh [CALLS [SEED]]
 #
-# Needs a C compiler for x86-64 and the library, which `rt staticlib directory_c` writes; LIBRARY=path names another. Exit status 0: every call kept its word;
+# Needs a C compiler for x86-64, elsewhere than there qemu-x86_64 too, and the library, which `rt staticlib directory_c` writes; LIBRARY=path names another. Exit status 0: every call kept its word;
 # 1: one did not; 2: something that is needed is missing.
 set -eu
 cd "$(dirname "$0")"
@@ -16,9 +16,7 @@ missing() {
     exit 2
 }
 
-[ "$(uname -m)" = x86_64 ] || missing "the library is for x86-64"
-echo 'int main(void) { return 0; }' > "$out/empty.c"
-${CC:-cc} "$out/empty.c" -o "$out/empty" 2> /dev/null || missing "no ${CC:-cc} that compiles a C program"
+. ./compiler.sh
 [ -f "$library" ] || missing "no $library; 'rt staticlib directory_c' writes it"
-${CC:-cc} -O2 -std=c11 -Wall -Wextra -I../include fuzz.c "$library" -o "$out/fuzz"
-"$out/fuzz" "${1:-1000000}" "${2:-1}"
+$compiler -O2 -std=c11 -Wall -Wextra -I../include fuzz.c "$library" -o "$out/fuzz"
+$emulator "$out/fuzz" "${1:-1000000}" "${2:-1}"

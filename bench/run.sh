@@ -44,16 +44,9 @@ build_library() {
     [ -f "$library" ] || missing "no $library; 'rt staticlib directory_c' writes it"
 }
 
-# The library is for x86-64 alone, so elsewhere its program is compiled across and run in an emulator.
 build_port() {
-    if [ "$(uname -m)" = x86_64 ]; then
-        compiler="${CC:-cc} -O2" emulator=
-    else
-        compiler="x86_64-linux-gnu-gcc -O2 -static" emulator=${QEMU:-qemu-x86_64}
-        command -v "$emulator" > /dev/null || missing "this is no x86-64 machine, and there is no $emulator to run the port in (QEMU=path names one)"
-    fi
-    $compiler "$out/empty.c" -o "$out/empty" 2> /dev/null || missing "no ${compiler%% *} that compiles a C program, for port.c"
-    $compiler -std=c11 -Wall -Wextra -I../include port.c "$library" -o "$out/port"
+    . ./compiler.sh
+    $compiler -O2 -std=c11 -Wall -Wextra -I../include port.c "$library" -o "$out/port"
 }
 
 # A program that stops early leaves answers out, which the comparison counts; so its status is not looked at.
