@@ -34,7 +34,8 @@ use Rattle.demands.specs.Histories.{Block, Turn, lent, next, after-all, CallByt
 use Rattle.demands.specs.Frames.{NoStart}
 use Rattle.demands.proofs.Cases.{insert-cases, delete-cases}
 use Rattle.demands.proofs.Frames.{frame-kept, kept-frame}
-use Rattle.demands.proofs.KeyBytes.{start-bytes, step-bytes}
+use Rattle.demands.proofs.KeyBytes.{start-bytes}
+use Rattle.demands.proofs.Steps.{step-bytes}
 use Rattle.capacity.specs.Capacity.{Ample, AmpleFrame, AmpleCaps, AmpleCall, AmpleStarts, Over, Tight}
 use Rattle.capacity.proofs.Rooms.{tight-block, tight-never-lacks}
 use Rattle.capacity.proofs.Numbers.{not-five}
@@ -86,13 +87,13 @@ module _ (b : Block) (k : Kept (b .words) (b .keys)) (bytes : Bytes (b .keys)) w
       go false e = subst (λ (o : start-call.Out). Kept (o .words) (o .keys)) (sym (start-refused (b .words) (b .keys) form c e)) k
 
   -- the frame stays
-  framed : (c : Call) (scratch : List ℕ) → NoStart c → CallBytes c → let o = run c (record { words = b .words; keys = b .keys; scratch = scratch }) .slices in TightAfter (o .words) (o .keys) → Kept (o .words) (o .keys)
-  framed c scratch n h tight = record { ample = subst AmpleFrame (sym (kept-frame (frame-kept c n h (record { words = b .words; keys = b .keys; scratch = scratch }) bytes))) (k .ample); tight = tight }
+  framed : (c : Call) (scratch : List ℕ) → NoStart c → CallBytes c → let o = run c (lent b scratch) .slices in TightAfter (o .words) (o .keys) → Kept (o .words) (o .keys)
+  framed c scratch n h tight = record { ample = subst AmpleFrame (sym (kept-frame (frame-kept c n h (lent b scratch) bytes))) (k .ample); tight = tight }
 
-  step-kept : (t : Turn) → CallBytes (t .call) → AmpleCall (t .call) (lent b t) → Kept (next b t .words) (next b t .keys)
+  step-kept : (t : Turn) → CallBytes (t .call) → AmpleCall (t .call) (lent b (t .scratch)) → Kept (next b t .words) (next b t .keys)
   step-kept t h a = go (t .call) h a
     where
-      go : (c : Call) → CallBytes c → AmpleCall c (lent b t) → let o = run c (record { words = b .words; keys = b .keys; scratch = t .scratch }) .slices in Kept (o .words) (o .keys)
+      go : (c : Call) → CallBytes c → AmpleCall c (lent b (t .scratch)) → let o = run c (lent b (t .scratch)) .slices in Kept (o .words) (o .keys)
       go (start form c) h a = start-keeps form c a
       go (query q) h a = k
       go (ask q) h a = k
@@ -136,6 +137,6 @@ module _ (b : Block) (form : ℕ) (c : Caps) (scratch : List ℕ) (done : startO
   ample-tight = last-kept .tight
 
   -- and no insert gives 5
-  pub ample-never-five : (tag : Tag) (total : ℕ) (more : List ℕ) → Bytes tag → number (edit (insert tag total)) (lent last (record { call = edit (insert tag total); scratch = more })) ≢ 5
+  pub ample-never-five : (tag : Tag) (total : ℕ) (more : List ℕ) → Bytes tag → number (edit (insert tag total)) (lent last more) ≢ 5
   ample-never-five tag total more tag-bytes =
-      not-five (lent last (record { call = edit (insert tag total); scratch = more })) tag total tag-bytes (λ z. tight-never-lacks z tag tag-bytes ample-tight ample-frame)
+      not-five (lent last more) tag total tag-bytes (λ z. tight-never-lacks z tag tag-bytes ample-tight ample-frame)

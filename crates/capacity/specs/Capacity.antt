@@ -49,7 +49,7 @@ AmpleCall (calls.edit e) s = Unit {0}
 -- each start among these calls that is accepted, on the block that those before it leave, has such capacities
 abbrev pub AmpleStarts : Block → List Turn → Type 0
 AmpleStarts b [] = Unit {0}
-AmpleStarts b (t ∷ ts) = AmpleCall (t .call) (lent b t) × AmpleStarts (next b t) ts
+AmpleStarts b (t ∷ ts) = AmpleCall (t .call) (lent b (t .scratch)) × AmpleStarts (next b t) ts
 
 -- of a place for inner records: unused, or a record with over m children
 abbrev pub Over : ℕ → Cell Held → Type 0

@@ -7,18 +7,15 @@ use Rattle.demands.specs.Calls.{Call, start, query, ask, edit, Slices, O
 use Rattle.demands.specs.Frames.{NoStart}
 use Rattle.demands.specs.Told.{number}
 use Rattle.demands.specs.Programs.{seen, Keeps}
-use Rattle.demands.specs.Demands.{Framed, OnSound, Holds, AsList, Draws, Branches, Counts, Demands}
+use Rattle.demands.specs.Demands.{Framed, Demands}
 use Rattle.demands.proofs.Outcomes.{one-outcome, promised}
 use Rattle.demands.proofs.Refusals.{refused-same, scratch-left}
 use Rattle.demands.proofs.Told.{refused-told, tag-part-told}
 use Rattle.demands.proofs.Frames.{frame-kept, kept-frame, kept-fits}
 use Rattle.demands.proofs.Numbers.{due-number, number-due}
-use Rattle.demands.proofs.Listed.{sound-listed}
+use Rattle.demands.proofs.Listed.{listed-by}
+use Rattle.demands.proofs.Histories.{history}
 use Rattle.demands.proofs.Corollaries.{either-order, restored}
-use Rattle.demands.proofs.Ledgers.{always}
-
-on-sound : OnSound (seen run)
-on-sound s z c h r = sound-listed (record { words = s .words; keys = s .keys }) z (record { call = c; scratch = s .scratch }) h r
 
 -- ── the frame ──
 no-start : (c : Call) → ((form : ℕ) (k : Caps) → c ≢ start form k) → NoStart c
@@ -30,19 +27,6 @@ no-start (edit e) h = tt
 framed : Framed (seen run)
 framed c h b s k = let z = frame-kept c (no-start c h) b s k in (kept-frame z, kept-fits z)
 
--- ── after any calls ──
-as-list : AsList (seen run)
-as-list = always Holds (λ b k y. record { sound = y .sound; totals-are = y .totals-are })
-
-draws : Draws (seen run)
-draws = always _ (λ b k y. y .draws)
-
-branches : Branches (seen run)
-branches = always _ (λ b k y. y .inner)
-
-counts : Counts (seen run)
-counts = always _ (λ b k y. y .count)
-
 -- ── all of them ──
 pub demands : Demands (seen run)
 demands = record {
@@ -53,11 +37,11 @@ demands = record {
   scratched = scratch-left;
   framed = framed;
   tagged = tag-part-told;
-  on-sound = on-sound;
-  as-list = as-list;
-  draws = draws;
-  branches = branches;
-  counts = counts;
+  on-sound = listed-by;
+  as-list = λ b k y. let x = history y in (x .sound, x .totals-are);
+  draws = λ b k y. history y .draws;
+  branches = λ b k y. history y .inner;
+  counts = λ b k y. history y .count;
   either-order = either-order;
   restored = restored;
 }

@@ -1,5 +1,5 @@
 -- Only start writes the words of the frame: an accepted insert or delete leaves a sound block in the same frame, and any other call leaves its words.
-use Prim.Native.Nat.{ℕ, _+_, _*_, _≤_}
+use Prim.Native.Nat.{ℕ, _+_, _*_}
 use mathlib.Core.Path.{_≡_, refl, sym, ap, ap₂, _∙_}
 use mathlib.Core.List.{List, [], _∷_}
 use mathlib.Core.Bool.{true, _&&_}
@@ -16,14 +16,12 @@ use Rattle.frames.proofs.FormTable.{form-rules}
 use Rattle.frames.proofs.Frames.{totals}
 use Rattle.reading.specs.Answers.{Bytes}
 use Rattle.insert.specs.Insert as insert-call
-use Rattle.insert.proofs.Calls.{short-fits}
 use Rattle.delete.specs.Delete as delete-call
-use Rattle.demands.specs.Calls.{Call, start, query, ask, edit, insert, delete, Slices, run}
+use Rattle.demands.specs.Calls.{Call, start, query, ask, edit, Slices, run}
 use Rattle.demands.specs.Histories.{Block, Turn, lent, next, after-all, CallBytes, AllBytes}
 use Rattle.demands.specs.Frames.{frameWords, FrameKept, NoStart, NoStarts}
-use Rattle.demands.proofs.Changes.{insert-sound, insert-frame, over-sound, over-frame, delete-sound, delete-frame}
-use Rattle.demands.proofs.Cases.{insert-cases, delete-cases}
-use Rattle.demands.proofs.KeyBytes.{step-bytes}
+use Rattle.demands.proofs.Edits.{edit-either}
+use Rattle.demands.proofs.Steps.{step-bytes}
 
 -- ── the frame's words by the form and the capacities ──
 abbrev madeOf : ℕ → Caps → List ℕ
@@ -74,34 +72,18 @@ fits-same words keys words′ keys′ fits fits′ e =
 kept : (words keys : List ℕ) → FrameKept words keys words keys
 kept words keys = record { trailer = refl; words-long = refl; keys-long = refl }
 
-insert-kept : (words keys scratch tag : List ℕ) (total : ℕ) → CallBytes (edit (insert tag total)) → Bytes keys
-    → let o = insert-call.insertOf words keys scratch tag total in FrameKept words keys (o .words) (o .keys)
-insert-kept words keys scratch tag total bytes key-bytes =
-    insert-cases words keys tag total (λ o. FrameKept words keys (o .words) (o .keys)) (λ a r e. kept words keys)
-    (λ r s short site n gap e.
-    let fits : length tag ≤ frame words .form .limit = short-fits words keys tag (s .fits) short in
-    fits-same _ _ _ _ (s .fits) (insert-sound s tag bytes key-bytes fits e total .0 .fits) (insert-frame s tag bytes key-bytes fits e total))
-    (λ r s leaf e. fits-same _ _ _ _ (s .fits) (over-sound s tag bytes e total .0 .fits) (over-frame s tag bytes e total)) scratch
-
-delete-kept : (words keys scratch tag : List ℕ) → CallBytes (edit (delete tag))
-    → let o = delete-call.deleteOf words keys scratch tag in FrameKept words keys (o .words) (o .keys)
-delete-kept words keys scratch tag bytes =
-    delete-cases words keys tag (λ o. FrameKept words keys (o .words) (o .keys)) (λ a r e. kept words keys)
-    (λ r s cut n gap e. fits-same _ _ _ _ (s .fits) (delete-sound s tag bytes e .0 .fits) (delete-frame s tag bytes e)) scratch
-
 -- whatever the memory holds, no call but start touches a word of the frame
 pub frame-kept : (c : Call) → NoStart c → CallBytes c → (s : Slices) → Bytes (s .keys) → FrameKept (s .words) (s .keys) (run c s .slices .words) (run c s .slices .keys)
 frame-kept (start form c) h b s k = absurd h
 frame-kept (query q) h b s k = kept (s .words) (s .keys)
 frame-kept (ask a) h b s k = kept (s .words) (s .keys)
-frame-kept (edit (insert t total)) h b s k = insert-kept (s .words) (s .keys) (s .scratch) t total b k
-frame-kept (edit (delete t)) h b s k = delete-kept (s .words) (s .keys) (s .scratch) t b
+frame-kept (edit e) h b s k = edit-either e s b k (FrameKept (s .words) (s .keys)) (kept (s .words) (s .keys)) (λ z w j c. fits-same _ _ _ _ (z .fits) (c .after .fits) (c .same-frame))
 
 -- ── any calls but start ──
 pub frames-kept : (b : Block) → Bytes (b .keys) → (ts : List Turn) → NoStarts ts → AllBytes ts → FrameKept (b .words) (b .keys) (after-all b ts .words) (after-all b ts .keys)
 frames-kept b k [] n h = kept (b .words) (b .keys)
 frames-kept b k (t ∷ ts) n h =
-    let one = frame-kept (t .call) (n .0) (h .0) (lent b t) k in
+    let one = frame-kept (t .call) (n .0) (h .0) (lent b (t .scratch)) k in
     let all = frames-kept (next b t) (step-bytes b k t (h .0)) ts (n .1) (h .1) in
     record { trailer = all .trailer ∙ one .trailer; words-long = all .words-long ∙ one .words-long; keys-long = all .keys-long ∙ one .keys-long }
 

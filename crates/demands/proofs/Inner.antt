@@ -10,9 +10,10 @@ use borrow.Author.Tests.{le-leb, lt-ltb, ltb-true, ltb-false}
 use Rattle.lists.specs.Scan.{choose, nonzero}
 use Rattle.lists.proofs.Tests.{and-both}
 use Rattle.frames.specs.Frame.{FrameOf, frame}
-use Rattle.frames.specs.Place.{inPool}
+use Rattle.frames.specs.Place.{inPool, recordAt}
 use Rattle.frames.specs.declared.frame.Frame.{Frame}
 use Rattle.frames.proofs.Places.{inner-kind}
+use Rattle.records.specs.Words.{usedAs}
 use Rattle.records.specs.View.{Held, cellOf}
 use Rattle.art.specs.Trees.{Tree, leaf, inner, Row, end, child}
 use Rattle.art.specs.Drawings.{draw}
@@ -23,12 +24,11 @@ use Rattle.art.specs.Calls.{OnceOf}
 use Rattle.art.specs.Points.{store-of}
 use Rattle.art.proofs.Passes.{store-on}
 use Rattle.art.proofs.Facts.{used-inner}
-use Rattle.view.specs.Cells.{wordZero}
 use Rattle.view.proofs.Views.{cell-free, cell-used}
 use Rattle.whole.specs.Sound.{Sound}
 use Rattle.whole.proofs.Sounds.{used-pool}
 use Rattle.demands.specs.Histories.{totals}
-use Rattle.demands.specs.Drawn.{usedBelow, usedOf, usedInner}
+use Rattle.demands.specs.Drawn.{usedBelow, usedInner}
 use Rattle.demands.proofs.Sums.{sum, four, heft, row-heft, sum-same, four-empty, heft-four}
 use Rattle.demands.proofs.Totals.{plain, plain-contents, plain-good, plain-forks}
 
@@ -54,8 +54,8 @@ mutual
 
 -- ── the block ──
 module _ (f : Frame) (words keys : List ℕ) where
-  used-one : (k n : ℕ) → k ≤ 4 → n < getD (f .caps) k 0 → choose {A = ℕ} (nonzero (wordZero f words (inner-place k n))) 1 0 ≡ one (cellOf f words keys (inner-place k n))
-  used-one k n h l = go (nonzero (wordZero f words (inner-place k n))) refl
+  used-one : (k n : ℕ) → k ≤ 4 → n < getD (f .caps) k 0 → choose {A = ℕ} (nonzero (usedAs (recordAt f words (inner-place k n)))) 1 0 ≡ one (cellOf f words keys (inner-place k n))
+  used-one k n h l = go (nonzero (usedAs (recordAt f words (inner-place k n)))) refl
     where
       x : Place
       x = inner-place k n
@@ -63,17 +63,20 @@ module _ (f : Frame) (words keys : List ℕ) where
       inside : inPool f x ≡ true
       inside = and-both (le-leb k 4 h) (lt-ltb n (getD (f .caps) k 0) l)
 
-      go : (b : Bool) → nonzero (wordZero f words x) ≡ b → choose {A = ℕ} b 1 0 ≡ one (cellOf f words keys x)
-      go true e = sym (one-used (cellOf f words keys x) (cell-used f words keys x inside (λ z. let p : 0 < wordZero f words x = ltb-true 0 (wordZero f words x) e in omega arith)))
-      go false e = sym (ap one (cell-free f words keys x (let p : wordZero f words x ≤ 0 = ltb-false 0 (wordZero f words x) e in omega arith)))
+      go : (b : Bool) → nonzero (usedAs (recordAt f words x)) ≡ b → choose {A = ℕ} b 1 0 ≡ one (cellOf f words keys x)
+      go true e = sym (one-used (cellOf f words keys x) (cell-used f words keys x inside (λ z. let p : 0 < usedAs (recordAt f words x) = ltb-true 0 (usedAs (recordAt f words x)) e in omega arith)))
+      go false e = sym (ap one (cell-free f words keys x (let p : usedAs (recordAt f words x) ≤ 0 = ltb-false 0 (usedAs (recordAt f words x)) e in omega arith)))
 
   below-counts : (k m : ℕ) → k ≤ 4 → m ≤ getD (f .caps) k 0 → usedBelow f words k m ≡ sum one (cellOf f words keys) (inner-place k) m
   below-counts k zero h l = refl
   below-counts k (suc m) h l = ap₂ _+_ (below-counts k m h (omega arith)) (used-one k m h (omega arith))
 
-  used-four : usedOf f words 1 + usedOf f words 2 + usedOf f words 3 + usedOf f words 4 ≡ four one f (cellOf f words keys)
+  abbrev usedOf : ℕ → ℕ
+  usedOf k = usedBelow f words k (getD (f .caps) k 0)
+
+  used-four : usedOf 1 + usedOf 2 + usedOf 3 + usedOf 4 ≡ four one f (cellOf f words keys)
   used-four =
-      let is : (k : ℕ) → k ≤ 4 → usedOf f words k ≡ sum one (cellOf f words keys) (inner-place k) (getD (f .caps) k 0) = λ k h. below-counts k (getD (f .caps) k 0) h (omega arith) in
+      let is : (k : ℕ) → k ≤ 4 → usedOf k ≡ sum one (cellOf f words keys) (inner-place k) (getD (f .caps) k 0) = λ k h. below-counts k (getD (f .caps) k 0) h (omega arith) in
       omega (arith, is 1 (omega arith), is 2 (omega arith), is 3 (omega arith), is 4 (omega arith))
 
 -- as many inner records are in use as the drawing has branchings

@@ -3,6 +3,7 @@ use Prim.Native.Nat.{ℕ}
 use mathlib.Core.Path.{_≡_, refl, sym, ap, _∙_}
 use mathlib.Core.List.{List}
 use mathlib.Core.Option.{Option, none, some}
+use mathlib.Core.Bool.{not}
 use Rattle.records.specs.View.{Held}
 use Rattle.art.specs.Tags.{Tag}
 use Rattle.art.specs.Listings.{lookup, lookup-begun}
@@ -26,7 +27,7 @@ use Rattle.delete.proofs.Answers.{delete-meets}
 use Rattle.demands.specs.Calls as calls
 use Rattle.demands.specs.Calls.{Call, Slices, run}
 use Rattle.demands.specs.Told.{Told, toldBy}
-use Rattle.demands.specs.Histories.{Block, Turn, lent, answered, CallBytes}
+use Rattle.demands.specs.Histories.{CallBytes}
 use Rattle.demands.specs.Tests.{Passed}
 use Rattle.demands.specs.Listed.{holds, Suffices, finds, takes, Listed}
 use Rattle.demands.proofs.Reading.{sound-reads}
@@ -64,6 +65,7 @@ facts a = toldBy (calls.facts a)
 abbrev tag : List ℕ → Told
 tag b = toldBy (calls.tag b)
 
+-- demand 2: on every sound block, with scratch enough, each call answers as the sorted list of what the block holds
 pub listed-by : (s : Slices) (z : Sound (s .words) (s .keys)) (c : Call) → CallBytes c → Suffices c s → Listed z c (toldBy (run c s .answer))
 unfolding afterOf
 listed-by s z (calls.start form c) b r = tt
@@ -77,12 +79,8 @@ listed-by s z (calls.query (calls.leaf-facts n)) b r =
     (λ e i j. ap (λ (m : ℕ). facts (factsOf (s .words) (s .keys) m)) (sym j) ∙ ap facts (sound-reads z .leaf-facts e i), λ h. ap facts (sound-reads z .facts-free n h))
 listed-by s z (calls.query (calls.leaf-tag n)) b r =
     (λ e i j. ap (λ (m : ℕ). tag (tagOf (s .words) (s .keys) m)) (sym j) ∙ ap tag (sound-reads z .leaf-tag e i), λ h. ap tag (sound-reads z .tag-free n h))
-listed-by s z (calls.ask calls.check) b r = ap (λ (a : Checked). toldBy (calls.checked a)) (check-passed s (record { room = r; sound = z }))
-listed-by s z (calls.ask (calls.first-at-or-after t)) b r = ap (λ (a : After). toldBy (calls.after a)) (after-meets s t (record { room = r; sound = z })) ∙ after-told (after t (holds z))
+listed-by s z (calls.ask calls.check) b r = ap (λ (a : Checked). toldBy (calls.checked a)) (check-passed s (record { room = r refl; sound = z }))
+listed-by s z (calls.ask (calls.first-at-or-after t)) b r = ap (λ (a : After). toldBy (calls.after a)) (after-meets s t (record { room = r refl; sound = z })) ∙ after-told (after t (holds z))
 listed-by s z (calls.edit (calls.insert t total)) b r =
-    (λ h. ap (λ (a : Inserted). toldBy (calls.inserted a)) (insert-too-long s t total h), λ h. inserts-listed s t total b h (record { room = r; sound = z }))
-listed-by s z (calls.edit (calls.delete t)) b r = ap (λ (a : Deleted). toldBy (calls.deleted a)) (delete-meets z t b (s .scratch) r .answer) ∙ taken-told (lookup t (holds z))
-
--- demand 2: on every sound block, with scratch enough, each call answers as the sorted list of what the block holds
-pub sound-listed : (b : Block) (s : Sound (b .words) (b .keys)) (t : Turn) → CallBytes (t .call) → Suffices (t .call) (lent b t) → Listed s (t .call) (toldBy (answered b t))
-sound-listed b s t h r = listed-by (lent b t) s (t .call) h r
+    (λ h. ap (λ (a : Inserted). toldBy (calls.inserted a)) (insert-too-long s t total h), λ h. inserts-listed s t total b h (record { room = r (ap not h); sound = z }))
+listed-by s z (calls.edit (calls.delete t)) b r = ap (λ (a : Deleted). toldBy (calls.deleted a)) (delete-meets z t b (s .scratch) (r refl) .answer) ∙ taken-told (lookup t (holds z))

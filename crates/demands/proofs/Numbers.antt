@@ -5,7 +5,7 @@ use mathlib.Core.Logic.{_≢_}
 use mathlib.Core.List.{List}
 use mathlib.Core.Bool.{Bool, true, false, true≢false, not}
 use native.Mathlib.Omega.{arith}
-use lib.ListN.{length, getD}
+use lib.ListN.{length}
 use lib.Dec.{eqb}
 use borrow.Author.Tests.{eq-eqb, ne-eqb, eqb-true, eqb-false, not-true}
 use Rattle.lists.specs.Scan.{choose}
@@ -13,6 +13,7 @@ use Rattle.frames.specs.Frame.{frameFits, frame}
 use Rattle.frames.specs.Place.{placeAt, inPool, startAt, recordAt}
 use Rattle.frames.specs.declared.frame.Caps.{Caps}
 use Rattle.frames.specs.declared.frame.Frame.{Frame}
+use Rattle.records.specs.Words.{usedAs, nextLeaf}
 use Rattle.art.specs.Tags.{Tag}
 use Rattle.art.specs.Verdicts.{free, judge}
 use Rattle.art.specs.Points.{store-of}
@@ -54,9 +55,9 @@ use Rattle.demands.specs.Calls.{Query, search, prefix-search, minimum, m
 use Rattle.demands.specs.Calls.{Call, start, query, ask, edit, Slices, given, checks, run}
 use Rattle.demands.specs.Told.{Told, toldBy, number}
 use Rattle.demands.specs.Histories.{CallBytes}
-use Rattle.demands.specs.Listed.{holds, Enough, Suffices, Listed}
+use Rattle.demands.specs.Listed.{holds, Enough, Listed}
 use Rattle.demands.specs.Due as due
-use Rattle.demands.specs.Due.{Unframed, Fitting, InUse, obeys, nextRef, namesLeaf, nextNamed, Numbered, OnLeaf, of-next, of-facts, Due}
+use Rattle.demands.specs.Due.{framed, leafAt, InUse, obeys, namesLeaf, OnLeaf, of-next, of-facts, Due}
 use Rattle.demands.specs.Tests.{Short, Passed}
 use Rattle.demands.proofs.Inserted.{inserts-same}
 use Rattle.demands.proofs.Listed.{listed-by}
@@ -64,7 +65,7 @@ use Rattle.demands.proofs.Ways.{meets-number, met, ends-number, ended}
 use Rattle.demands.proofs.Tested.{Tests, unframed, short, unsound, passed, tested, check-unframed, check-short, check-unsound, insert-too-long, insert-by, insert-passed, delete-by}
 
 -- ── where the frame does not fit ──
-unframed-is : {A : Type 0} (s : Slices) → Unframed s → (given : Frame → A) (refused : A) → withFrame (s .words) (s .keys) given refused ≡ refused
+unframed-is : {A : Type 0} (s : Slices) → framed s ≡ false → (given : Frame → A) (refused : A) → withFrame (s .words) (s .keys) given refused ≡ refused
 unfolding withFrame
 unframed-is s e given refused = ap (λ (b : Bool). choose b (given (frame (s .words))) refused) e
 
@@ -80,21 +81,22 @@ module _ (s : Slices) (n : ℕ) where
   abbrev state : LeafState
   state = leafState f (s .words) (s .keys) n
 
-  outside-state : inPool f (leaf-place n) ≡ false → state ≡ NoLeaf
+  absent-state : framed s ≡ true → ¬ InUse s n → state ≡ NoLeaf
   unfolding leafState
-  outside-state p = simp p
-
-  free-state : inPool f (leaf-place n) ≡ true → getD (recordAt f (s .words) (leaf-place n)) 0 0 ≡ 0 → state ≡ NoLeaf
-  unfolding leafState
-  free-state p e = simp (p, eq-eqb (getD (recordAt f (s .words) (leaf-place n)) 0 0) 0 e)
+  absent-state fits h = go (inPool f (leaf-place n)) refl (eqb (usedAs (leafAt s n)) 0) refl
+    where
+      go : (p : Bool) → inPool f (leaf-place n) ≡ p → (d : Bool) → eqb (usedAs (leafAt s n)) 0 ≡ d → state ≡ NoLeaf
+      go false e d i = simp e
+      go true e true i = simp (e, i)
+      go true e false i = absurd (h (fits, e, eqb-false (usedAs (leafAt s n)) 0 i))
 
   broken-state : InUse s n → obeys s n ≡ false → state ≡ Broken
   unfolding leafState
-  broken-state u r = simp (u .pool, ne-eqb (getD (recordAt f (s .words) (leaf-place n)) 0 0) 0 (u .used), r)
+  broken-state u r = simp (u .1, ne-eqb (usedAs (leafAt s n)) 0 (u .2), r)
 
   good-state : InUse s n → obeys s n ≡ true → state ≡ Good (startAt f (leaf-place n))
   unfolding leafState
-  good-state u r = simp (u .pool, ne-eqb (getD (recordAt f (s .words) (leaf-place n)) 0 0) 0 (u .used), r)
+  good-state u r = simp (u .1, ne-eqb (usedAs (leafAt s n)) 0 (u .2), r)
 
   next-by : frameFits (s .words) (s .keys) ≡ true → (x : LeafState) → state ≡ x → nextLeafOf (s .words) (s .keys) n ≡ nextFrom f (s .words) n x
   next-by fits x e = framed-is s fits _ _ ∙ ap (nextFrom f (s .words) n) e
@@ -102,24 +104,24 @@ module _ (s : Slices) (n : ℕ) where
   facts-by : frameFits (s .words) (s .keys) ≡ true → (x : LeafState) → state ≡ x → factsOf (s .words) (s .keys) n ≡ factsFrom (recordAt f (s .words) (leaf-place n)) x
   facts-by fits x e = framed-is s fits _ _ ∙ ap (factsFrom (recordAt f (s .words) (leaf-place n))) e
 
-  at-number : (x : Place) (b : Bool) → namesLeaf f (s .words) x ≡ b → foundNumber (nextAt f (s .words) x) ≡ choose {A = ℕ} b 0 6
+  at-number : (x : Place) (b : Bool) → namesLeaf s x ≡ b → foundNumber (nextAt f (s .words) x) ≡ choose {A = ℕ} b 0 6
   at-number (leaf-place m) true e = ap (λ (b : Bool). foundNumber (choose b (leafFound m (recordAt f (s .words) (leaf-place m))) found.Damaged)) e
   at-number (leaf-place m) false e = ap (λ (b : Bool). foundNumber (choose b (leafFound m (recordAt f (s .words) (leaf-place m))) found.Damaged)) e
   at-number (inner-place k m) b e = ap (λ (b : Bool). choose {A = ℕ} b 0 6) e
 
   -- a leaf that obeys its rule: by what its next names
-  next-end : InUse s n → obeys s n ≡ true → nextRef s n ≡ 0 → foundNumber (nextLeafOf (s .words) (s .keys) n) ≡ 1
+  next-end : InUse s n → obeys s n ≡ true → nextLeaf (leafAt s n) ≡ 0 → foundNumber (nextLeafOf (s .words) (s .keys) n) ≡ 1
   unfolding nextOf
   next-end u r e =
-      ap foundNumber (next-by (u .fits) _ (good-state u r))
-      ∙ ap (λ (b : Bool). foundNumber (choose b found.Missing (nextAt f (s .words) (placeAt (nextRef s n))))) (eq-eqb (nextRef s n) 0 e)
+      ap foundNumber (next-by (u .0) _ (good-state u r))
+      ∙ ap (λ (b : Bool). foundNumber (choose b found.Missing (nextAt f (s .words) (placeAt (nextLeaf (leafAt s n)))))) (eq-eqb (nextLeaf (leafAt s n)) 0 e)
 
-  next-names : InUse s n → obeys s n ≡ true → nextRef s n ≢ 0 → (b : Bool) → nextNamed s (nextRef s n) ≡ b → foundNumber (nextLeafOf (s .words) (s .keys) n) ≡ choose {A = ℕ} b 0 6
+  next-names : InUse s n → obeys s n ≡ true → nextLeaf (leafAt s n) ≢ 0 → (b : Bool) → namesLeaf s (placeAt (nextLeaf (leafAt s n))) ≡ b → foundNumber (nextLeafOf (s .words) (s .keys) n) ≡ choose {A = ℕ} b 0 6
   unfolding nextOf
   next-names u r ne b e =
-      ap foundNumber (next-by (u .fits) _ (good-state u r))
-      ∙ ap (λ (b : Bool). foundNumber (choose b found.Missing (nextAt f (s .words) (placeAt (nextRef s n))))) (ne-eqb (nextRef s n) 0 ne)
-      ∙ at-number (placeAt (nextRef s n)) b e
+      ap foundNumber (next-by (u .0) _ (good-state u r))
+      ∙ ap (λ (b : Bool). foundNumber (choose b found.Missing (nextAt f (s .words) (placeAt (nextLeaf (leafAt s n)))))) (ne-eqb (nextLeaf (leafAt s n)) 0 ne)
+      ∙ at-number (placeAt (nextLeaf (leafAt s n))) b e
 
 -- ── start ──
 start-number : (s : Slices) (form : ℕ) (c : Caps) (b : Bool) → startFitsIn form c (length (s .words)) (length (s .keys)) ≡ b → start-call.startNumber (startOf (s .words) (s .keys) form c .answer) ≡ choose {A = ℕ} b 0 8
@@ -127,8 +129,12 @@ start-number s form c true e = ap start-call.startNumber (starts.start-done (s .
 start-number s form c false e = ap (λ (o : start-call.Out). start-call.startNumber (o .answer)) (starts.start-refused (s .words) (s .keys) form c e)
 
 -- ── a class of calls ──
+-- a query that gives a number: all do but the one that gives a tag
+abbrev Numbered : Query → Type 0
+Numbered q = (n : ℕ) → q ≢ leaf-tag n
+
 -- every query that gives a number gives 6 where the frame does not fit
-query-number : (q : Query) (s : Slices) → Numbered q → Unframed s → number (query q) s ≡ 6
+query-number : (q : Query) (s : Slices) → Numbered q → framed s ≡ false → number (query q) s ≡ 6
 query-number (search t) s h e = ap foundNumber (unframed-is s e _ _)
 query-number (prefix-search t) s h e = ap foundNumber (unframed-is s e _ _)
 query-number minimum s h e = ap foundNumber (unframed-is s e _ _)
@@ -182,12 +188,12 @@ checked-number (edit (delete t)) s h r e n = ap delete-answer.numberOf (delete-b
 listed-number : (c : Call) (s : Slices) (p : Passed s) → CallBytes c → checks c s ≡ true → (a : Told) → Listed (p .sound) c a → number c s ≡ a .number
 listed-number (start form c) s p b h a l = absurd (true≢false (sym h))
 listed-number (query q) s p b h a l = absurd (true≢false (sym h))
-listed-number (ask check) s p b h a l = ap (λ (a : Told). a .number) (listed-by s (p .sound) (ask check) b (p .room) ∙ sym l)
-listed-number (ask (first-at-or-after t)) s p b h a l = ap (λ (a : Told). a .number) (listed-by s (p .sound) (ask (first-at-or-after t)) b (p .room) ∙ sym l)
+listed-number (ask check) s p b h a l = ap (λ (a : Told). a .number) (listed-by s (p .sound) (ask check) b (λ e. p .room) ∙ sym l)
+listed-number (ask (first-at-or-after t)) s p b h a l = ap (λ (a : Told). a .number) (listed-by s (p .sound) (ask (first-at-or-after t)) b (λ e. p .room) ∙ sym l)
 listed-number (edit (insert t total)) s p b h a l =
     let e = not-true _ h in
-    ap (λ (a : Told). a .number) (inserts-same (p .sound) t b (listed-by s (p .sound) (edit (insert t total)) b (p .room) .1 e) (l .1 e))
-listed-number (edit (delete t)) s p b h a l = ap (λ (a : Told). a .number) (listed-by s (p .sound) (edit (delete t)) b (p .room) ∙ sym l)
+    ap (λ (a : Told). a .number) (inserts-same (p .sound) t b (listed-by s (p .sound) (edit (insert t total)) b (λ e. p .room) .1 e) (l .1 e))
+listed-number (edit (delete t)) s p b h a l = ap (λ (a : Told). a .number) (listed-by s (p .sound) (edit (delete t)) b (λ e. p .room) ∙ sym l)
 
 -- ── each row's number is given where its condition holds ──
 pub due-number : {c : Call} {s : Slices} {n : ℕ} → CallBytes c → Due c s n → number c s ≡ n
@@ -195,9 +201,8 @@ unfolding afterOf
 due-number b (due.start-refused {form} {c} {s} e) = start-number s form c false e
 due-number b (due.start-done {form} {c} {s} e) = start-number s form c true e
 due-number b (due.query-unframed {q} {s} h e) = query-number q s h e
-due-number b (due.leaf-outside {q} {n} {s} k fits e) = leaf-number s k fits NoLeaf (outside-state s n e) (λ z. omega arith)
-due-number b (due.leaf-free {q} {n} {s} k fits p e) = leaf-number s k fits NoLeaf (free-state s n p e) (λ z. omega arith)
-due-number b (due.leaf-broken {q} {n} {s} k u r) = leaf-number s k (u .fits) Broken (broken-state s n u r) (λ z. omega arith)
+due-number b (due.leaf-absent {q} {n} {s} k fits h) = leaf-number s k fits NoLeaf (absent-state s n fits h) (λ z. omega arith)
+due-number b (due.leaf-broken {q} {n} {s} k u r) = leaf-number s k (u .0) Broken (broken-state s n u r) (λ z. omega arith)
 due-number b (due.checked-unframed {c} {s} h e) = checked-number c s h checked.Damaged (check-unframed s e) (λ z. omega arith)
 due-number b (due.checked-short {c} {s} h f l) = checked-number c s h checked.ShortScratch (check-short s (record { fits = f; less = omega (arith, l) })) (λ z. omega arith)
 due-number b (due.checked-unsound {c} {s} h f r u) = checked-number c s h checked.Damaged (check-unsound s (record { fits = f; room = r; not-sound = u })) (λ z. omega arith)
@@ -209,7 +214,7 @@ due-number b due.tag-given = refl
 due-number b (due.next-unnamed {n} {s} u r ne e) = next-names s n u r ne false e
 due-number b (due.next-end {n} {s} u r e) = next-end s n u r e
 due-number b (due.next-done {n} {s} u r ne e) = next-names s n u r ne true e
-due-number b (due.facts-done {n} {s} u r) = ap factsNumber (facts-by s n (u .fits) _ (good-state s n u r))
+due-number b (due.facts-done {n} {s} u r) = ap factsNumber (facts-by s n (u .0) _ (good-state s n u r))
 due-number b (due.insert-long {t} {total} {s} l) = ap insert-answer.numberOf (insert-too-long s t total l)
 due-number b (due.checked-listed {c} {s} h r z a l) = listed-number c s (record { room = r; sound = z }) b h a l
 
@@ -224,7 +229,7 @@ on-leaf (of-next n) m e = let z : _≡_ {A = ℕ} 0 1 = cc in omega arith
 on-leaf (of-facts n) m e = let z : _≡_ {A = ℕ} 0 1 = cc in omega arith
 
 -- a query: by the frame, then as the walk meets it
-by-frame : {q : Query} {s : Slices} → Numbered q → (Fitting s → Row (query q) s) → Row (query q) s
+by-frame : {q : Query} {s : Slices} → Numbered q → (framed s ≡ true → Row (query q) s) → Row (query q) s
 by-frame {q} {s} k walked = go (frameFits (s .words) (s .keys)) refl
   where
     go : (b : Bool) → frameFits (s .words) (s .keys) ≡ b → Row (query q) s
@@ -235,19 +240,12 @@ by-frame {q} {s} k walked = go (frameFits (s .words) (s .keys)) refl
 pub short-not : (s : Slices) → Short s → ¬ Enough s
 short-not s e r = omega (arith, e .less)
 
--- where the check is passed scratch suffices
-suffices : (c : Call) (s : Slices) → Passed s → Suffices c s
-suffices (start form c) s p = tt
-suffices (query q) s p = tt
-suffices (ask a) s p = p .room
-suffices (edit e) s p = p .room
-
 -- a call that gets to the check: by frame, scratch and soundness, then by the list
 by-tests : (c : Call) (s : Slices) → CallBytes c → checks c s ≡ true → Tests s → Row c s
 by-tests c s b h (unframed e) = (6, due.checked-unframed h e)
 by-tests c s b h (short e) = (7, due.checked-short h (e .fits) (short-not s e))
 by-tests c s b h (unsound e) = (6, due.checked-unsound h (e .fits) (e .room) (e .not-sound))
-by-tests c s b h (passed p) = (toldBy (run c s .answer) .number, due.checked-listed h (p .room) (p .sound) (toldBy (run c s .answer)) (listed-by s (p .sound) c b (suffices c s p)))
+by-tests c s b h (passed p) = (toldBy (run c s .answer) .number, due.checked-listed h (p .room) (p .sound) (toldBy (run c s .answer)) (listed-by s (p .sound) c b (λ e. p .room)))
 
 start-row : (form : ℕ) (c : Caps) (s : Slices) (b : Bool) → startFitsIn form c (length (s .words)) (length (s .keys)) ≡ b → Row (start form c) s
 start-row form c s true e = (0, due.start-done e)
@@ -258,21 +256,21 @@ by-leaf : {q : Query} {n : ℕ} (s : Slices) → OnLeaf q n → (InUse s n → o
 by-leaf {q} {n} s k good = by-frame (on-leaf k) (λ p. go p (inPool (frame (s .words)) (leaf-place n)) refl (eqb word 0) refl (obeys s n) refl)
   where
     word : ℕ
-    word = getD (recordAt (frame (s .words)) (s .words) (leaf-place n)) 0 0
+    word = usedAs (leafAt s n)
 
-    go : Fitting s → (b : Bool) → inPool (frame (s .words)) (leaf-place n) ≡ b → (d : Bool) → eqb word 0 ≡ d → (r : Bool) → obeys s n ≡ r → Row (query q) s
-    go p false e d i r j = (9, due.leaf-outside k p e)
-    go p true e true i r j = (9, due.leaf-free k p e (eqb-true word 0 i))
-    go p true e false i false j = (6, due.leaf-broken k (record { fits = p; pool = e; used = eqb-false word 0 i }) j)
-    go p true e false i true j = good (record { fits = p; pool = e; used = eqb-false word 0 i }) j
+    go : framed s ≡ true → (b : Bool) → inPool (frame (s .words)) (leaf-place n) ≡ b → (d : Bool) → eqb word 0 ≡ d → (r : Bool) → obeys s n ≡ r → Row (query q) s
+    go p false e d i r j = (9, due.leaf-absent k p (λ u. true≢false (sym (u .1) ∙ e)))
+    go p true e true i r j = (9, due.leaf-absent k p (λ u. u .2 (eqb-true word 0 i)))
+    go p true e false i false j = (6, due.leaf-broken k (p, e, eqb-false word 0 i) j)
+    go p true e false i true j = good (p, e, eqb-false word 0 i) j
 
 next-row : (s : Slices) (n : ℕ) → InUse s n → obeys s n ≡ true → Row (query (next-leaf n)) s
-next-row s n u r = go (eqb (nextRef s n) 0) refl (nextNamed s (nextRef s n)) refl
+next-row s n u r = go (eqb (nextLeaf (leafAt s n)) 0) refl (namesLeaf s (placeAt (nextLeaf (leafAt s n)))) refl
   where
-    go : (b : Bool) → eqb (nextRef s n) 0 ≡ b → (d : Bool) → nextNamed s (nextRef s n) ≡ d → Row (query (next-leaf n)) s
-    go true e d i = (1, due.next-end u r (eqb-true (nextRef s n) 0 e))
-    go false e true i = (0, due.next-done u r (eqb-false (nextRef s n) 0 e) i)
-    go false e false i = (6, due.next-unnamed u r (eqb-false (nextRef s n) 0 e) i)
+    go : (b : Bool) → eqb (nextLeaf (leafAt s n)) 0 ≡ b → (d : Bool) → namesLeaf s (placeAt (nextLeaf (leafAt s n))) ≡ d → Row (query (next-leaf n)) s
+    go true e d i = (1, due.next-end u r (eqb-true (nextLeaf (leafAt s n)) 0 e))
+    go false e true i = (0, due.next-done u r (eqb-false (nextLeaf (leafAt s n)) 0 e) i)
+    go false e false i = (6, due.next-unnamed u r (eqb-false (nextLeaf (leafAt s n)) 0 e) i)
 
 insert-row : (s : Slices) (t : Tag) (total : ℕ) → Bytes t → (b : Bool) → tooLong (s .words) (s .keys) t ≡ b → Row (edit (insert t total)) s
 insert-row s t total bytes true e = (2, due.insert-long e)

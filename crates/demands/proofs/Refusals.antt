@@ -34,8 +34,9 @@ use Rattle.delete.specs.declared.plan.Plan.the-variants as gone
 use Rattle.demands.specs.Calls.{Call, start, query, ask, edit, insert, delete}
 use Rattle.demands.specs.Calls.{Slices, run}
 use Rattle.demands.specs.Told.{number}
-use Rattle.demands.specs.Scratch.{enough, leftIn}
-use Rattle.demands.proofs.Cases.{either, insert-cases, delete-cases}
+use Rattle.demands.specs.Scratch.{leftIn}
+use Rattle.demands.proofs.Cases.{either}
+use Rattle.demands.proofs.Edits.{edit-refused}
 
 -- the words and key bytes as they came
 abbrev Same : (words keys w k : List ℕ) → Type 0
@@ -49,12 +50,7 @@ start-kept : (words keys : List ℕ) (form : ℕ) (c : Caps) → StartKept words
 unfolding startOf
 start-kept words keys form c = either (StartKept words keys) (startFitsIn form c (length words) (length keys)) _ _ (λ h. absurd (h refl)) (λ h. (refl, refl))
 
--- ── insert ──
-insert-kept : (words keys scratch tag : List ℕ) (total : ℕ) → let o = insertOf words keys scratch tag total in insert-answer.numberOf (o .answer) ≢ 0 → Same words keys (o .words) (o .keys)
-insert-kept words keys scratch tag total =
-    insert-cases words keys tag total (λ o. insert-answer.numberOf (o .answer) ≢ 0 → Same words keys (o .words) (o .keys)) (λ a r e h. (refl, refl)) (λ r s short site n gap e h. absurd (h refl))
-    (λ r s leaf e h. absurd (h refl)) scratch
-
+-- ── scratch, past the check ──
 module _ (words keys tag : List ℕ) (total : ℕ) where
   -- scratch as the check leaves it
   insert-scratch-planned : (f : Frame) (scratch : List ℕ) (p : insert-plans.Plan) → insert-call.planned f words keys scratch tag total p .scratch ≡ scratch
@@ -70,11 +66,6 @@ module _ (words keys tag : List ℕ) (total : ℕ) where
   insert-scratch-by scratch checked.Sound = insert-scratch-planned (frame words) scratch (insert-plan.planOf (frame words) words keys tag)
   insert-scratch-by scratch checked.Damaged = refl
   insert-scratch-by scratch checked.ShortScratch = refl
-
--- ── delete ──
-delete-kept : (words keys scratch tag : List ℕ) → let o = deleteOf words keys scratch tag in delete-answer.numberOf (o .answer) ≢ 0 → Same words keys (o .words) (o .keys)
-delete-kept words keys scratch tag =
-    delete-cases words keys tag (λ o. delete-answer.numberOf (o .answer) ≢ 0 → Same words keys (o .words) (o .keys)) (λ a r e h. (refl, refl)) (λ r s cut n gap e h. absurd (h refl)) scratch
 
 module _ (words keys tag : List ℕ) where
   delete-scratch-planned : (f : Frame) (scratch : List ℕ) (p : delete-plans.Plan) → delete-call.planned f words keys scratch p .scratch ≡ scratch
@@ -94,10 +85,13 @@ pub refused-same : (c : Call) (s : Slices) → number c s ≢ 0 → (run c s .sl
 refused-same (start form c) s h = start-kept (s .words) (s .keys) form c h
 refused-same (query q) s h = (refl, refl)
 refused-same (ask a) s h = (refl, refl)
-refused-same (edit (insert t total)) s h = insert-kept (s .words) (s .keys) (s .scratch) t total h
-refused-same (edit (delete t)) s h = delete-kept (s .words) (s .keys) (s .scratch) t h
+refused-same (edit e) s h = edit-refused e s h
 
 -- ── scratch ──
+-- the frame fits, and there is a byte for each record
+abbrev enough : Slices → Bool
+enough s = frameFits (s .words) (s .keys) && leb (placesIn (frame (s .words))) (length (s .scratch))
+
 check-scratch : (s : Slices) → checkOf (s .words) (s .keys) (s .scratch) .scratch ≡ choose (enough s) (cleared (placesIn (frame (s .words))) (s .scratch)) (s .scratch)
 unfolding checkOf
 check-scratch s = go (frameFits (s .words) (s .keys)) (ltb (length (s .scratch)) places) refl

@@ -2,7 +2,7 @@
 use Prim.Native.Nat.{ℕ, _≤_}
 use mathlib.Core.Path.{_≡_, refl, sym, ap, _∙_}
 use mathlib.Core.List.{List}
-use mathlib.Core.Bool.{Bool, true, false}
+use mathlib.Core.Bool.{Bool, true, false, true≢false}
 use lib.ListN.{length}
 use lib.Dec.{ltb}
 use borrow.Author.Tests.{le-ltb, lt-ltb, ltb-true, ltb-false}
@@ -24,12 +24,16 @@ use Rattle.delete.specs.Delete as delete-call
 use Rattle.delete.specs.Delete.{deleteOf, deleteChecked, deleteSound, deleteBy}
 use Rattle.delete.specs.Plan as delete-plan
 use Rattle.demands.specs.Calls.{Slices}
-use Rattle.demands.specs.Due.{Unframed}
+use Rattle.demands.specs.Due.{framed}
 use Rattle.demands.specs.Tests.{Short, Unsound, Passed}
+
+-- no call that does not check asks for scratch
+pub unchecked : {A : Type 0} → false ≡ true → A
+unchecked e = absurd (true≢false (sym e))
 
 -- one of the four holds
 pub data Tests (s : Slices) : Type 0 where
-  unframed : Unframed s → Tests s
+  unframed : framed s ≡ false → Tests s
   short : Short s → Tests s
   unsound : Unsound s → Tests s
   passed : Passed s → Tests s
@@ -57,7 +61,7 @@ module _ (s : Slices) where
       go true p false q true r = passed (record { room = ltb-false (length (s .scratch)) places q; sound = whole-sound (s .words) (s .keys) (whole-is true r p) })
 
   -- ── what the check answers ──
-  pub check-unframed : Unframed s → checkOf (s .words) (s .keys) (s .scratch) .result ≡ checked.Damaged
+  pub check-unframed : framed s ≡ false → checkOf (s .words) (s .keys) (s .scratch) .result ≡ checked.Damaged
   unfolding checkOf
   check-unframed e = simp e
 

@@ -9,6 +9,7 @@ use lib.ListN.{getD}
 use lib.Dec.{eqb}
 use borrow.Author.Tests.{lt-ltb, eq-eqb, ne-eqb, eqb-true, eqb-false}
 use Rattle.lists.specs.Scan.{choose}
+use Rattle.lists.proofs.Tests.{both}
 use Rattle.prefix.specs.declared.lookup.PrefixMatchBehavior.{PrefixMatchBehavior}
 use Rattle.prefix.specs.declared.lookup.PrefixMatchBehavior.the-variants.{Pessimistic}
 use Rattle.prefix.specs.declared.lookup.PrefixMatch.{PrefixMatch}
@@ -40,7 +41,7 @@ use Rattle.tree.specs.declared.minmax.EdgeStep.the-variants as edges
 use Rattle.tree.proofs.Arrivals.{inner-stands}
 use Rattle.reading.specs.Answers.{Bytes}
 use Rattle.demands.specs.Way as way
-use Rattle.demands.specs.Way.{Breaks, outside, own-rule, none-left, Stands, matched, childFor, Comes, Gives, endRef, Descends, Ends}
+use Rattle.demands.specs.Way.{stands, Breaks, fallen, none-left, matched, childFor, Comes, Gives, endRef, Descends, Ends}
 
 -- from the root, or 1 where there is none
 abbrev rooted : List ℕ → Found → ℕ
@@ -70,13 +71,11 @@ module _ (f : Frame) (words keys : List ℕ) where
 
   broken : {left : ℕ} {x : Place} → Breaks f words keys left x → arrival left x ≡ Broken
   unfolding arrivalAt
-  broken (outside {left} {x} e) = ap (λ (b : Bool). choose (b && (ruleAt f words keys x && onPath left x)) (arrived f x) Broken) e
-  broken (own-rule {left} {x} e) = go (inPool f x) (ruleAt f words keys x) e
+  broken (fallen {left} {x} e) = go (inPool f x) (ruleAt f words keys x) e
     where
-      go : (p r : Bool) → r ≡ false → choose (p && (r && onPath left x)) (arrived f x) Broken ≡ Broken
+      go : (p r : Bool) → p && r ≡ false → choose (p && (r && onPath left x)) (arrived f x) Broken ≡ Broken
       go false r i = refl
-      go true false i = refl
-      go true true i = ap (λ (b : Bool). choose (b && onPath left x) (arrived f x) Broken) i
+      go true r i = ap (λ (b : Bool). choose (b && onPath left x) (arrived f x) Broken) i
   broken (none-left {k} {n}) = go (inPool f (inner-place k n)) (ruleAt f words keys (inner-place k n))
     where
       go : (p r : Bool) → choose (p && (r && false)) (arrived f (inner-place k n)) Broken ≡ Broken
@@ -84,22 +83,21 @@ module _ (f : Frame) (words keys : List ℕ) where
       go true false = refl
       go true true = refl
 
-  at-leaf : (left n : ℕ) → Stands f words keys (leaf-place n) → arrival left (leaf-place n) ≡ Leaf n (startAt f (leaf-place n))
+  at-leaf : (left n : ℕ) → stands f words keys (leaf-place n) ≡ true → arrival left (leaf-place n) ≡ Leaf n (startAt f (leaf-place n))
   unfolding arrivalAt
-  at-leaf left n s = simp (s .pool, s .rule)
+  at-leaf left n s = let h = both (inPool f (leaf-place n)) (ruleAt f words keys (leaf-place n)) s in simp (h .0, h .1)
 
-  at-inner : (left k n : ℕ) → Stands f words keys (inner-place k n) → arrival (suc left) (inner-place k n) ≡ Inner k (startAt f (inner-place k n))
+  at-inner : (left k n : ℕ) → stands f words keys (inner-place k n) ≡ true → arrival (suc left) (inner-place k n) ≡ Inner k (startAt f (inner-place k n))
   unfolding arrivalAt
-  at-inner left k n s = simp (s .pool, s .rule, lt-ltb 0 (suc left) (omega arith)) refl
+  at-inner left k n s = let h = both (inPool f (inner-place k n)) (ruleAt f words keys (inner-place k n)) s in simp (h .0, h .1, lt-ltb 0 (suc left) (omega arith)) refl
 
   -- at any place it is one or the other
-  met-or-stands : {P : Type 0} (left : ℕ) (x : Place) → (Breaks f words keys left x → P) → (Stands f words keys x → P) → P
-  met-or-stands {P} left x damaged stands = go (inPool f x) refl (ruleAt f words keys x) refl
+  met-or-stands : {P : Type 0} (left : ℕ) (x : Place) → (Breaks f words keys left x → P) → (stands f words keys x ≡ true → P) → P
+  met-or-stands {P} left x damaged whole = go (stands f words keys x) refl
     where
-      go : (p : Bool) → inPool f x ≡ p → (r : Bool) → ruleAt f words keys x ≡ r → P
-      go false i r j = damaged (outside i)
-      go true i false j = damaged (own-rule j)
-      go true i true j = stands (record { pool = i; rule = j })
+      go : (b : Bool) → stands f words keys x ≡ b → P
+      go false e = damaged (fallen e)
+      go true e = whole e
 
   -- ── search and prefix search ──
   module _ (t : Tag) (aim : Aim) where
@@ -125,12 +123,12 @@ module _ (f : Frame) (words keys : List ℕ) where
     stops (suc left) x depth b a e = ap (taken left) e
 
     -- what a step gives at a record that stands
-    inner-step : (left k n depth : ℕ) (b : PrefixMatchBehavior) → Stands f words keys (inner-place k n)
+    inner-step : (left k n depth : ℕ) (b : PrefixMatchBehavior) → stands f words keys (inner-place k n) ≡ true
         → stepAt (suc left) (inner-place k n) depth b ≡ afterMatch (f .form) k (recordAt f words (inner-place k n)) t (matched f words t k n depth b)
     unfolding innerStep
     inner-step left k n depth b s = ap (stepFrom f words keys t aim depth b) (at-inner left k n s)
 
-    leaf-step : (left n depth : ℕ) (b : PrefixMatchBehavior) → Stands f words keys (leaf-place n)
+    leaf-step : (left n depth : ℕ) (b : PrefixMatchBehavior) → stands f words keys (leaf-place n) ≡ true
         → (z : Bool) → leafFits (recordAt f words (leaf-place n)) (keyAt f keys n) t aim depth b ≡ z
         → stepAt left (leaf-place n) depth b ≡ lookup.Final (choose z (leafFound n (recordAt f words (leaf-place n))) found.Missing)
     unfolding leafAnswer
@@ -148,10 +146,10 @@ module _ (f : Frame) (words keys : List ℕ) where
     -- on a frame that fits, by a tag of bytes
     module _ (w : FrameOf f words keys) (bytes : Bytes t) where
       -- the child for a byte of a record that stands is its row's
-      child-is : (k n d : ℕ) → Stands f words keys (inner-place k n) → childAt (f .form) k (recordAt f words (inner-place k n)) (getD t d 0) ≡ childFor f words t k n d
-      child-is k n d s = row-rule (inner-stands w (inner-place k n) k n (startAt f (inner-place k n)) refl refl (s .pool) (s .rule) .fits) .child-for (getD t d 0) (bytes d)
+      child-is : (k n d : ℕ) → stands f words keys (inner-place k n) ≡ true → childAt (f .form) k (recordAt f words (inner-place k n)) (getD t d 0) ≡ childFor f words t k n d
+      child-is k n d s = row-rule (inner-stands w (inner-place k n) k n (startAt f (inner-place k n)) refl refl (both (inPool f (inner-place k n)) (ruleAt f words keys (inner-place k n)) s .0) (both (inPool f (inner-place k n)) (ruleAt f words keys (inner-place k n)) s .1) .fits) .child-for (getD t d 0) (bytes d)
 
-      child-step : (left k n depth d : ℕ) (b b′ : PrefixMatchBehavior) → Stands f words keys (inner-place k n) → matched f words t k n depth b ≡ On d b′
+      child-step : (left k n depth d : ℕ) (b b′ : PrefixMatchBehavior) → stands f words keys (inner-place k n) ≡ true → matched f words t k n depth b ≡ On d b′
           → (z : Bool) → eqb (childFor f words t k n d) 0 ≡ z
           → stepAt (suc left) (inner-place k n) depth b ≡ choose z (lookup.Final found.Missing) (lookup.Next (childFor f words t k n d) (d + 1) b′)
       child-step left k n depth d b b′ s m z e =
@@ -187,17 +185,17 @@ module _ (f : Frame) (words keys : List ℕ) where
     abbrev Met : Type 0
     Met = (n : ℕ) × Gives f words keys t aim n
 
-    leaf-met : (left n depth : ℕ) (b : PrefixMatchBehavior) → Comes f words keys t left (leaf-place n) depth b → Stands f words keys (leaf-place n)
+    leaf-met : (left n depth : ℕ) (b : PrefixMatchBehavior) → Comes f words keys t left (leaf-place n) depth b → stands f words keys (leaf-place n) ≡ true
         → (z : Bool) → leafFits (recordAt f words (leaf-place n)) (keyAt f keys n) t aim depth b ≡ z → Met
     leaf-met left n depth b c s true e = (0, way.the-leaf c s e)
     leaf-met left n depth b c s false e = (1, way.other-leaf c s e)
 
-    child-met : (left k n depth d : ℕ) (b b′ : PrefixMatchBehavior) → Comes f words keys t (suc left) (inner-place k n) depth b → Stands f words keys (inner-place k n)
+    child-met : (left k n depth d : ℕ) (b b′ : PrefixMatchBehavior) → Comes f words keys t (suc left) (inner-place k n) depth b → stands f words keys (inner-place k n) ≡ true
         → matched f words t k n depth b ≡ On d b′ → ((x : Place) → Comes f words keys t left x (d + 1) b′ → Met) → (z : Bool) → eqb (childFor f words t k n d) 0 ≡ z → Met
     child-met left k n depth d b b′ c s m go true e = (1, way.no-child c s m (eqb-true (childFor f words t k n d) 0 e))
     child-met left k n depth d b b′ c s m go false e = go (placeAt (childFor f words t k n d)) (way.down c s m (eqb-false (childFor f words t k n d) 0 e))
 
-    inner-met : (left k n depth : ℕ) (b : PrefixMatchBehavior) → Comes f words keys t (suc left) (inner-place k n) depth b → Stands f words keys (inner-place k n)
+    inner-met : (left k n depth : ℕ) (b : PrefixMatchBehavior) → Comes f words keys t (suc left) (inner-place k n) depth b → stands f words keys (inner-place k n) ≡ true
         → ((x : Place) (d : ℕ) (b : PrefixMatchBehavior) → Comes f words keys t left x d b → Met) → (m : PrefixMatch) → matched f words t k n depth b ≡ m → Met
     inner-met left k n depth b c s go (Off agreed) e = (1, way.off-prefix c s e)
     inner-met left k n depth b c s go (On d b′) e = child-met left k n depth d b b′ c s e (λ x. go x (d + 1) b′) (eqb (childFor f words t k n d) 0) refl

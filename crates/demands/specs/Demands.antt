@@ -13,17 +13,15 @@ use Rattle.art.specs.Drawings.{draw}
 use Rattle.art.specs.Facts.{branchings}
 use Rattle.reading.specs.Answers.{Bytes}
 use Rattle.whole.specs.Sound.{Sound}
-use Rattle.demands.specs.Calls.{Query, Asked, Call, start, query, ask, leaf-facts, leaf-tag, Edit, insert, delete, Slices}
+use Rattle.demands.specs.Calls.{Query, Asked, Call, start, query, ask, leaf-facts, leaf-tag, Edit, edit, insert, delete, Slices}
 use Rattle.demands.specs.Told.{only, withTag}
 use Rattle.demands.specs.Histories.{Block, tagOf, totals, CallBytes}
 use Rattle.demands.specs.Scratch.{leftIn}
 use Rattle.demands.specs.Drawn.{drawingOf, usedInner}
-use Rattle.demands.specs.Accepts.{turn}
 use Rattle.demands.specs.Due.{Due}
-use Rattle.demands.specs.Listed.{holds}
-use Rattle.demands.specs.Listed.{Suffices, Listed}
+use Rattle.demands.specs.Listed.{holds, Suffices, Listed}
 use Rattle.demands.specs.Ledger.{Ledger}
-use Rattle.demands.specs.Programs.{Program, numberBy, nextBy, AcceptedBy, Always}
+use Rattle.demands.specs.Programs.{Program, numberBy, nextBy, AcceptedBy, Reached}
 
 -- ── the first demand: any memory, any tag ──
 -- bad input gets the number that the table has for it: a row that holds is given, and what is given is a row that holds
@@ -63,39 +61,34 @@ Tagged p = (n : ℕ) (s : Slices) → let at : ℕ = n * frame (s .words) .form 
 abbrev pub OnSound : Program → Type 0
 OnSound p = (s : Slices) (z : Sound (s .words) (s .keys)) (c : Call) → CallBytes c → Suffices c s → Listed z c (p c s .told)
 
--- a sound directory that holds the ledger's tags and totals
-pub record Holds (b : Block) (k : Ledger) : Type 0 where
-  pub sound : Sound (b .words) (b .keys)
-  pub totals-are : totals (holds sound) ≡ k .list
-
 -- after any calls it is sound, and holds the tags of accepted inserts, each with its last total, less those of later accepted deletes
 abbrev pub AsList : Program → Type 0
-AsList p = Always p Holds
+AsList p = (b : Block) (k : Ledger) → Reached p b k → (z : Sound (b .words) (b .keys)) × (totals (holds z) ≡ k .list)
 
 -- ── the third demand: from a fresh directory, after any calls ──
 -- the tree is the one drawing that these tags define
 abbrev pub Draws : Program → Type 0
-Draws p = Always p (λ b k. drawingOf (b .words) (b .keys) ≡ draw (k .list))
+Draws p = (b : Block) (k : Ledger) → Reached p b k → drawingOf (b .words) (b .keys) ≡ draw (k .list)
 
 -- the inner records in use are as many as the branchings that are drawn
 abbrev pub Branches : Program → Type 0
-Branches p = Always p (λ b k. usedInner (b .words) ≡ branchings (draw (k .list)))
+Branches p = (b : Block) (k : Ledger) → Reached p b k → usedInner (b .words) ≡ branchings (draw (k .list))
 
 -- the tag count is the accepted new inserts less the accepted deletes
 abbrev pub Counts : Program → Type 0
-Counts p = Always p (λ b k. countWord (b .words) + k .deletes ≡ k .inserts)
+Counts p = (b : Block) (k : Ledger) → Reached p b k → countWord (b .words) + k .deletes ≡ k .inserts
 
 -- two accepted changes to different tags leave sound directories that draw the same in either order, where both orders are accepted
 abbrev pub EitherOrder : Program → Type 0
 EitherOrder p = (b : Block) → Sound (b .words) (b .keys) → Bytes (b .keys) → (x y : Edit) → Bytes (tagOf x) → Bytes (tagOf y) → tagOf x ≢ tagOf y → (q r q′ r′ : List ℕ)
-    → let bx = nextBy p b (turn x q) in let by = nextBy p b (turn y r′) in let xy = nextBy p bx (turn y r) in let yx = nextBy p by (turn x q′) in
+    → let bx = nextBy p b (edit x) q in let by = nextBy p b (edit y) r′ in let xy = nextBy p bx (edit y) r in let yx = nextBy p by (edit x) q′ in
     AcceptedBy p b x q → AcceptedBy p bx y r → AcceptedBy p b y r′ → AcceptedBy p by x q′
     → Sound (xy .words) (xy .keys) × Sound (yx .words) (yx .keys) × (drawingOf (xy .words) (xy .keys) ≡ drawingOf (yx .words) (yx .keys))
 
 -- a tag that is not held, added and removed, both accepted, leaves a sound directory that draws what it drew
 abbrev pub Restored : Program → Type 0
 Restored p = (b : Block) (z : Sound (b .words) (b .keys)) → Bytes (b .keys) → (t : Tag) (total : ℕ) → Bytes t → lookup t (holds z) ≡ none → (q r : List ℕ)
-    → let added = nextBy p b (turn (insert t total) q) in let removed = nextBy p added (turn (delete t) r) in
+    → let added = nextBy p b (edit (insert t total)) q in let removed = nextBy p added (edit (delete t)) r in
     AcceptedBy p b (insert t total) q → AcceptedBy p added (delete t) r → Sound (removed .words) (removed .keys) × (drawingOf (removed .words) (removed .keys) ≡ drawingOf (b .words) (b .keys))
 
 -- ── all of them ──

@@ -5,11 +5,11 @@ use lib.ListN.{getD}
 use Rattle.lists.specs.Scan.{choose, nonzero}
 use Rattle.frames.specs.declared.frame.Frame.{Frame}
 use Rattle.frames.specs.Frame.{frame, rootWord}
-use Rattle.frames.specs.Place.{placeAt}
+use Rattle.frames.specs.Place.{placeAt, recordAt}
+use Rattle.records.specs.Words.{usedAs}
 use Rattle.records.specs.View.{Held, cellOf}
 use Rattle.art.specs.Drawings.{Drawing, nothing, one, branch, Kids, done, kid}
 use Rattle.art.specs.Stores.{Place, inner-place, Cell, unused, leaf-cell, inner-cell, Store}
-use Rattle.view.specs.Cells.{wordZero}
 
 -- ── the drawing, read from the records ──
 -- the children of a row, by what stands below each of its places
@@ -36,12 +36,8 @@ drawingOf words keys = let f = frame words in drawnFrom (suc (f .form .limit)) (
 -- of a kind, with a number below n
 abbrev pub usedBelow : Frame → List ℕ → ℕ → ℕ → ℕ
 usedBelow f words k zero = 0
-usedBelow f words k (suc n) = usedBelow f words k n + choose {A = ℕ} (nonzero (wordZero f words (inner-place k n))) 1 0
+usedBelow f words k (suc n) = usedBelow f words k n + choose {A = ℕ} (nonzero (usedAs (recordAt f words (inner-place k n)))) 1 0
 
--- of a kind, in all its pool
-abbrev pub usedOf : Frame → List ℕ → ℕ → ℕ
-usedOf f words k = usedBelow f words k (getD (f .caps) k 0)
-
--- of all four kinds, in the frame that the trailer gives
+-- of all four kinds, each in all its pool, in the frame that the trailer gives
 abbrev pub usedInner : List ℕ → ℕ
-usedInner words = let f = frame words in usedOf f words 1 + usedOf f words 2 + usedOf f words 3 + usedOf f words 4
+usedInner words = let f = frame words in let of : ℕ → ℕ = λ k. usedBelow f words k (getD (f .caps) k 0) in of 1 + of 2 + of 3 + of 4

@@ -18,7 +18,7 @@ use Rattle.whole.specs.Sound.{Sound}
 use Rattle.insert.specs.Room.{Lacking}
 use Rattle.insert.specs.Insert.{tooLong}
 use Rattle.demands.specs.Calls as calls
-use Rattle.demands.specs.Calls.{Call, Slices}
+use Rattle.demands.specs.Calls.{Call, Slices, checks}
 use Rattle.demands.specs.Told.{Told, only, withTotal, withLeaf, withLength, withTag}
 
 -- what a sound block holds
@@ -33,22 +33,18 @@ Full {words} s = length (holds s) ≡ getD (frame words .caps) 5 0
 abbrev pub Enough : Slices → Type 0
 Enough s = placesIn (frame (s .words)) ≤ length (s .scratch)
 
--- where a call takes scratch, there is enough
+-- where a call gets to the whole check, there is enough
 abbrev pub Suffices : Call → Slices → Type 0
-Suffices (calls.start form c) s = Unit {0}
-Suffices (calls.query q) s = Unit {0}
-Suffices (calls.ask a) s = Enough s
-Suffices (calls.edit e) s = Enough s
+Suffices c s = checks c s ≡ true → Enough s
 
--- 0 with the total of what is held, or 1
-abbrev pub takes : Option Held → Told
-takes none = only 1
-takes (some h) = withTotal (h .total) (only 0)
-
--- the same with its leaf
+-- 0 with the leaf and the total of what is held, or 1
 abbrev pub finds : Option Held → Told
 finds none = only 1
 finds (some h) = withLeaf (h .number) (withTotal (h .total) (only 0))
+
+-- the same without its leaf
+abbrev pub takes : Option Held → Told
+takes o = withLeaf 0 (finds o)
 
 -- insert of a tag that is not too long: the old total of a held one; 3 for one that begins a held tag or is begun by one; any other goes in, but for 4 where all leaves have tags, and 5 where the
 -- record that it wants is not to be had

@@ -1,13 +1,14 @@
--- Any program that has these calls: what a caller sees of it, call by call.
+-- Any program that has these calls: what a caller sees of it, and the blocks that calls from a start on lead to.
 use Prim.Native.Nat.{ℕ}
 use mathlib.Core.Path.{_≡_}
-use mathlib.Core.List.{List, [], _∷_}
+use mathlib.Core.Logic.{_≢_}
+use mathlib.Core.List.{List, []}
 use Rattle.frames.specs.declared.frame.Caps.{Caps}
-use Rattle.demands.specs.Calls.{Call, start, Edit, Slices, Outcome, Promise}
+use Rattle.reading.specs.Answers.{Bytes}
+use Rattle.demands.specs.Calls.{Query, Asked, Edit, Call, start, query, ask, edit, Slices, Outcome, Promise}
 use Rattle.demands.specs.Told.{Told, toldBy}
-use Rattle.demands.specs.Histories.{Block, Turn, lent, AllBytes}
-use Rattle.demands.specs.Accepts.{turn}
-use Rattle.demands.specs.Ledger.{Ledger, ledger, entered}
+use Rattle.demands.specs.Histories.{Block, lent, tagOf}
+use Rattle.demands.specs.Ledger.{Ledger, ledger, accepted}
 
 -- of one call: what it tells, and the slices at exit
 pub record Seen : Type 0 where
@@ -30,30 +31,26 @@ Keeps f = (c : Call) (s : Slices) → Promise c s (f c s)
 abbrev pub numberBy : Program → Call → Slices → ℕ
 numberBy p c s = p c s .told .number
 
--- ── one call after the other, with nothing else writing ──
--- what a call on a block tells
-abbrev pub tells : Program → Block → Turn → Told
-tells p b t = p (t .call) (lent b t) .told
+-- ── calls on a block, each with the scratch that is lent to it ──
+-- what a call tells
+abbrev pub tells : Program → Block → Call → List ℕ → Told
+tells p b c scratch = p c (lent b scratch) .told
 
 -- the block afterwards
-abbrev pub nextBy : Program → Block → Turn → Block
-nextBy p b t = let s = p (t .call) (lent b t) .slices in record { words = s .words; keys = s .keys }
+abbrev pub nextBy : Program → Block → Call → List ℕ → Block
+nextBy p b c scratch = let s = p c (lent b scratch) .slices in record { words = s .words; keys = s .keys }
 
--- and after all of these
-abbrev pub afterBy : Program → Block → List Turn → Block
-afterBy p b [] = b
-afterBy p b (t ∷ ts) = afterBy p (nextBy p b t) ts
-
--- what those of them that are accepted make of a ledger
-abbrev pub ledgerBy : Program → Block → Ledger → List Turn → Ledger
-ledgerBy p b k [] = k
-ledgerBy p b k (t ∷ ts) = ledgerBy p (nextBy p b t) (entered (tells p b t .number) (t .call) k) ts
-
--- the edit is accepted, with this scratch
+-- the edit is accepted
 abbrev pub AcceptedBy : Program → Block → Edit → List ℕ → Type 0
-AcceptedBy p b e scratch = tells p b (turn e scratch) .number ≡ 0
+AcceptedBy p b e scratch = numberBy p (edit e) (lent b scratch) ≡ 0
 
--- from any memory on which a start is accepted, and after any calls, refused ones among them: so it is with the block, by what the accepted ones define
-abbrev pub Always : Program → (Block → Ledger → Type 0) → Type 0
-Always p Q = (b : Block) (form : ℕ) (c : Caps) (scratch : List ℕ) → let t : Turn = record { call = start form c; scratch = scratch } in
-    tells p b t .number ≡ 0 → (ts : List Turn) → AllBytes ts → Q (afterBy p (nextBy p b t) ts) (ledgerBy p (nextBy p b t) (ledger [] 0 0) ts)
+-- ── the blocks that any calls lead to, with what the accepted ones define; nothing else writes ──
+pub data Reached (p : Program) : Block → Ledger → Type 0 where
+  -- from any memory by an accepted start, which holds nothing
+  fresh : (b : Block) (form : ℕ) (c : Caps) (r : List ℕ) → numberBy p (start form c) (lent b r) ≡ 0 → Reached p (nextBy p b (start form c) r) (ledger [] 0 0)
+  -- by an accepted edit
+  changed : {b : Block} {k : Ledger} → Reached p b k → (e : Edit) → Bytes (tagOf e) → (r : List ℕ) → AcceptedBy p b e r → Reached p (nextBy p b (edit e) r) (accepted e k)
+  -- by any call that is refused, or that only asks: these define nothing
+  refused : {b : Block} {k : Ledger} → Reached p b k → (c : Call) (r : List ℕ) → numberBy p c (lent b r) ≢ 0 → Reached p (nextBy p b c r) k
+  queried : {b : Block} {k : Ledger} → Reached p b k → (q : Query) (r : List ℕ) → Reached p (nextBy p b (query q) r) k
+  asked : {b : Block} {k : Ledger} → Reached p b k → (a : Asked) (r : List ℕ) → Reached p (nextBy p b (ask a) r) k

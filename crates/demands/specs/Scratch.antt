@@ -10,13 +10,9 @@ use Rattle.whole.specs.Marks.{placesIn}
 use Rattle.whole.specs.Check.{cleared}
 use Rattle.demands.specs.Calls.{Call, Slices, checks}
 
--- the frame fits, and there is a byte for each record
-abbrev pub enough : Slices → Bool
-enough s = frameFits (s .words) (s .keys) && leb (placesIn (frame (s .words))) (length (s .scratch))
-
--- the call gets past its test for 7
+-- the call gets past its test for 7: the frame fits, and there is a byte for each record
 abbrev pub past : Call → Slices → Bool
-past c s = checks c s && enough s
+past c s = checks c s && (frameFits (s .words) (s .keys) && leb (placesIn (frame (s .words))) (length (s .scratch)))
 
 -- as many zeros in front as there are records, the rest untouched; before the test all untouched
 abbrev pub leftIn : Call → Slices → List ℕ

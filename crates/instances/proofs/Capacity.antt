@@ -18,7 +18,8 @@ use Rattle.demands.specs.Calls.{edit, Call, start, insert, delete}
 use Rattle.demands.specs.Told.{number}
 use Rattle.demands.specs.Histories.{lent, Block, Turn, next, after-all, AllBytes}
 use Rattle.demands.proofs.Leaves.{full-count}
-use Rattle.demands.proofs.Histories.{history}
+use Rattle.demands.specs.Programs.{fresh}
+use Rattle.demands.proofs.Histories.{history, all-reached}
 use Rattle.capacity.specs.Capacity.{Large, AmpleCaps, AmpleFrame, AmpleStarts, Tight}
 use Rattle.capacity.proofs.Rooms.{never-lacks, tight-never-lacks}
 use Rattle.capacity.proofs.Numbers.{large-never-five}
@@ -82,7 +83,7 @@ starts = (tt, ((λ done. enough), (tt, (tt, (tt, (tt, (tt, (tt, tt))))))))
 abbrev last : Block
 last = after-all (next before (call (start 1 five))) calls
 
-A-again : number (edit (insert A 6)) (lent last (call (edit (insert A 6)))) ≢ 5
+A-again : number (edit (insert A 6)) (lent last (replicate 11 1)) ≢ 5
 A-again = ample-never-five before 1 five (replicate 11 1) accepted enough calls bytes starts A 6 (replicate 11 1) (tag-bytes A refl)
 
 smallest-kinds : Tight (frame (last .words)) (last .words) (last .keys)
@@ -92,7 +93,8 @@ still-enough : AmpleFrame (frame (last .words))
 still-enough = ample-frame before 1 five (replicate 11 1) accepted enough calls bytes starts
 
 last-sound : Sound (last .words) (last .keys)
-last-sound = history before 1 five (replicate 11 1) accepted calls bytes .sound
+unfolding opened
+last-sound = history (all-reached (fresh before 1 five (replicate 11 1) refl) calls bytes .1) .sound
 
 A-has-room : ¬ Lacking (frame (last .words)) (last-sound .tree) A
 unfolding opened

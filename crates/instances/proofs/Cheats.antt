@@ -1,7 +1,8 @@
 -- Programs that cheat, and for each the field of the demands that it breaks: one call or a few refute it, by computing.
 use Prim.Native.Nat.{ℕ, zero, suc, _+_, _-_}
 use mathlib.Core.Path.{_≡_, refl, sym, ap, _∙_}
-use mathlib.Core.List.{List, [], _∷_}
+use mathlib.Core.List.{List, []}
+use mathlib.Core.Option.{Option, none, some}
 use mathlib.Core.Bool.{Bool, true, false, true≢false}
 use native.Mathlib.Omega.{arith}
 use lib.ListN.{getD, length, replicate, set}
@@ -17,16 +18,16 @@ use Rattle.whole.specs.Sound.{Sound}
 use Rattle.whole.proofs.Samples.{two-sound}
 use Rattle.pointed.proofs.Points.{tag-bytes}
 use Rattle.demands.specs.Calls as calls
-use Rattle.demands.specs.Calls.{Query, query, search, minimum, Edit, edit, insert, delete, Slices, run}
+use Rattle.demands.specs.Calls.{Query, query, search, minimum, edit, insert, delete, Slices, run}
 use Rattle.demands.specs.Told.{Told, only, withLeaf}
-use Rattle.demands.specs.Histories.{Block, Turn, totals}
-use Rattle.demands.specs.Accepts.{turn}
+use Rattle.demands.specs.Histories.{Block, totals}
 use Rattle.demands.specs.Due as due
 use Rattle.demands.specs.Listed.{holds, finds}
-use Rattle.demands.specs.Ledger.{Ledger}
-use Rattle.demands.specs.Programs.{Seen, Program, seen}
-use Rattle.demands.specs.Demands.{Numbers, Bare, Unchanged, Still, Scratched, Framed, Tagged, OnSound, Holds, AsList, Draws, Branches, Counts, EitherOrder, Restored}
+use Rattle.demands.specs.Ledger.{gives}
+use Rattle.demands.specs.Programs.{Seen, Program, seen, fresh, changed}
+use Rattle.demands.specs.Demands.{Numbers, Bare, Unchanged, Still, Scratched, Framed, Tagged, OnSound, AsList, Draws, Branches, Counts, EitherOrder, Restored}
 use Rattle.demands.proofs.Corollaries.{one-tree}
+use Rattle.demands.proofs.Tested.{unchecked}
 use Rattle.instances.specs.Opened.{opened}
 use Rattle.instances.specs.Blocks.{nothing, bare, two, room, caps, lend, A, B, C}
 use Rattle.instances.proofs.Sounds.{bare-sound, spare-sound, bare-holds, spare-holds, two-holds}
@@ -54,26 +55,21 @@ replied q s = port (query q) s
 abbrev as-is : Seen → Slices → Seen
 as-is o s = o
 
+-- the first where the edit puts its tag in, the second where it takes it out
+abbrev by-edit : {X : Type 0} → Option ℕ → X → X → X
+by-edit (some total) i d = i
+by-edit none i d = d
+
 -- the port, with other queries, and with something else made of what an insert or a delete does
 abbrev port-but : (Query → Slices → Seen) → (inserts deletes : Seen → Slices → Seen) → Program
 port-but q i d (calls.start form c) s = port (calls.start form c) s
 port-but q i d (query x) s = q x s
 port-but q i d (calls.ask a) s = port (calls.ask a) s
-port-but q i d (edit (insert t total)) s = i (port (edit (insert t total)) s) s
-port-but q i d (edit (delete t)) s = d (port (edit (delete t)) s) s
+port-but q i d (edit e) s = by-edit (gives e) i d (port (edit e) s) s
 
--- search has one fixed answer, that of minimum
-abbrev as-minimum : Query → Query
-as-minimum (search t) = minimum
-as-minimum (calls.prefix-search t) = calls.prefix-search t
-as-minimum minimum = minimum
-as-minimum calls.maximum = calls.maximum
-as-minimum (calls.next-leaf n) = calls.next-leaf n
-as-minimum (calls.leaf-facts n) = calls.leaf-facts n
-as-minimum (calls.leaf-tag n) = calls.leaf-tag n
-
+-- every query has one fixed answer, that of minimum
 abbrev fixed : Program
-fixed = port-but (λ q s. replied (as-minimum q) s) as-is as-is
+fixed = port-but (λ q s. replied minimum s) as-is as-is
 
 -- a refused query tells a leaf, by the number of the refusal
 abbrev chatty : Program
@@ -182,7 +178,7 @@ nameless-refuted h =
 pub fixed-refuted : ¬ OnSound fixed
 unfolding opened
 fixed-refuted h =
-    let z : _≡_ {A = ℕ} 0 1 = ap (λ (a : Told). a .leaf) (h (lend two 3) two-sound (query (search B)) b-bytes tt ∙ ap (λ (l : Listing Held). finds (lookup B l)) two-holds) in
+    let z : _≡_ {A = ℕ} 0 1 = ap (λ (a : Told). a .leaf) (h (lend two 3) two-sound (query (search B)) b-bytes unchecked ∙ ap (λ (l : Listing Held). finds (lookup B l)) two-holds) in
     omega arith
 
 -- ── calls after a start ──
@@ -190,58 +186,45 @@ fixed-refuted h =
 abbrev before : Block
 before = record { words = replicate 47 3; keys = replicate 128 9 }
 
-abbrev call : Edit → Turn
-call e = turn e (replicate 3 1)
-
--- A with 7
-abbrev put-A : List Turn
-put-A = call (insert A 7) ∷ []
-
--- then B with 8
-abbrev put-both : List Turn
-put-both = call (insert A 7) ∷ call (insert B 8) ∷ []
-
--- or A out again
-abbrev put-drop : List Turn
-put-drop = call (insert A 7) ∷ call (delete A) ∷ []
+abbrev r : List ℕ
+r = replicate 3 1
 
 -- whoever found a block sound, it holds as many tags
-as-many : {b : Block} {k : Ledger} → Holds b k → (z : Sound (b .words) (b .keys)) {l : Listing Held} → holds z ≡ l → length (totals l) ≡ length (k .list)
-as-many y z e = ap (λ (l : Listing Held). length (totals l)) (sym e ∙ ap held (one-tree z (y .sound))) ∙ ap length (y .totals-are)
+as-many : {words keys : List ℕ} {m : Listing ℕ} → (y : Sound words keys) × (totals (holds y) ≡ m) → (z : Sound words keys) {l : Listing Held} → holds z ≡ l → length (totals l) ≡ length m
+as-many y z e = ap (λ (l : Listing Held). length (totals l)) (sym e ∙ ap held (one-tree z (y .0))) ∙ ap length (y .1)
 
 -- nothing would be held, where A was accepted
 pub idle-refuted : ¬ AsList idle
 unfolding opened
 idle-refuted h =
-    let z : _≡_ {A = ℕ} 0 1 = as-many (h before 1 (caps 2) [] refl put-A (a-bytes, tt)) bare-sound bare-holds in
+    let z : _≡_ {A = ℕ} 0 1 = as-many (h _ _ (changed (fresh before 1 (caps 2) [] refl) (insert A 7) a-bytes r refl)) bare-sound bare-holds in
     omega arith
 
 -- A alone would be held, where A and B were accepted
 pub first-only-refuted : ¬ AsList first-only
 unfolding opened
 first-only-refuted h =
-    let z : _≡_ {A = ℕ} 1 2 = as-many (h before 1 (caps 2) [] refl put-both (a-bytes, (b-bytes, tt))) spare-sound spare-holds in
+    let z : _≡_ {A = ℕ} 1 2 = as-many (h _ _ (changed (changed (fresh before 1 (caps 2) [] refl) (insert A 7) a-bytes r refl) (insert B 8) b-bytes r refl)) spare-sound spare-holds in
     omega arith
 
 -- and drawn, with no branching
 pub first-only-undrawn : ¬ Draws first-only
 unfolding opened
 first-only-undrawn h =
-    let z : _≡_ {A = ℕ} 0 1 = ap (λ (d : Drawing ℕ). branchings d) (h before 1 (caps 2) [] refl put-both (a-bytes, (b-bytes, tt))) in
+    let z : _≡_ {A = ℕ} 0 1 = ap (λ (d : Drawing ℕ). branchings d) (h _ _ (changed (changed (fresh before 1 (caps 2) [] refl) (insert A 7) a-bytes r refl) (insert B 8) b-bytes r refl)) in
     omega arith
 
 -- and no inner record in use, where one is drawn
 pub first-only-unbranched : ¬ Branches first-only
 unfolding opened
 first-only-unbranched h =
-    let z : _≡_ {A = ℕ} 0 1 = h before 1 (caps 2) [] refl put-both (a-bytes, (b-bytes, tt)) in
+    let z : _≡_ {A = ℕ} 0 1 = h _ _ (changed (changed (fresh before 1 (caps 2) [] refl) (insert A 7) a-bytes r refl) (insert B 8) b-bytes r refl) in
     omega arith
 
 -- A and then B would draw A, and B and then A would draw B
 pub first-only-ordered : ¬ EitherOrder first-only
 unfolding opened
 first-only-ordered h =
-    let r : List ℕ = replicate 3 1 in
     let o = h bare bare-sound (tag-bytes (bare .keys) refl) (insert A 7) (insert B 8) a-bytes b-bytes (λ e. let y : _≡_ {A = ℕ} 65 66 = cc in omega arith) r r r r refl refl refl refl in
     let e : _≡_ {A = Drawing ℕ} (drawn.one A 7) (drawn.one B 8) = o .2 in
     let z : _≡_ {A = ℕ} 7 8 = cc in
@@ -251,7 +234,6 @@ first-only-ordered h =
 pub dropping-unrestored : ¬ Restored dropping
 unfolding opened
 dropping-unrestored h =
-    let r : List ℕ = replicate 3 1 in
     let o = h bare bare-sound (tag-bytes (bare .keys) refl) A 7 a-bytes (ap (lookup A) bare-holds) r r refl refl in
     let e : _≡_ {A = Drawing ℕ} (drawn.one A 7) drawn.nothing = o .1 in
     let z : _≡_ {A = ℕ} 0 1 = cc in
@@ -261,20 +243,20 @@ dropping-unrestored h =
 pub dropping-refuted : ¬ AsList dropping
 unfolding opened
 dropping-refuted h =
-    let z : _≡_ {A = ℕ} 1 0 = as-many (h before 1 (caps 2) [] refl put-drop (a-bytes, (a-bytes, tt))) spare-sound spare-holds in
+    let z : _≡_ {A = ℕ} 1 0 = as-many (h _ _ (changed (changed (fresh before 1 (caps 2) [] refl) (insert A 7) a-bytes r refl) (delete A) a-bytes r refl)) spare-sound spare-holds in
     omega arith
 
 -- the count would be 0 after an accepted new insert
 pub made-up-refuted : ¬ Counts made-up
 unfolding opened
 made-up-refuted h =
-    let z : _≡_ {A = ℕ} 0 1 = h before 1 (caps 2) [] refl put-A (a-bytes, tt) in
+    let z : _≡_ {A = ℕ} 0 1 = h _ _ (changed (fresh before 1 (caps 2) [] refl) (insert A 7) a-bytes r refl) in
     omega arith
 
 -- a fresh directory would draw nothing still, where A was accepted
 pub identity-refuted : ¬ Draws identity
 unfolding opened
 identity-refuted h =
-    let e : _≡_ {A = Drawing ℕ} drawn.nothing (drawn.one A 7) = h bare 1 (caps 2) [] refl put-A (a-bytes, tt) in
+    let e : _≡_ {A = Drawing ℕ} drawn.nothing (drawn.one A 7) = h _ _ (changed (fresh bare 1 (caps 2) [] refl) (insert A 7) a-bytes r refl) in
     let z : _≡_ {A = ℕ} 0 1 = cc in
     omega arith

@@ -3,7 +3,7 @@ use Prim.Native.Nat.{ℕ, zero, suc, _≤_, _<_}
 use mathlib.Core.Path.{_≡_, refl, sym, ap, subst, _∙_}
 use mathlib.Core.List.{[], _∷_}
 use mathlib.Core.Option.{Option}
-use mathlib.Core.Bool.{true, true≢false}
+use mathlib.Core.Bool.{true, false, true≢false}
 use native.Mathlib.Omega.{arith}
 use lib.ListN.{length, getD}
 use lib.Dec.{leb, ltb}
@@ -15,7 +15,7 @@ use Rattle.frames.specs.Frame.{frame}
 use Rattle.whole.proofs.Sounds.{sound-whole}
 use Rattle.whole.proofs.Samples.{two-keys, broken-words, two-sound, broken-found}
 use Rattle.insert.specs.Room.{Lacking}
-use Rattle.demands.specs.Due.{Unframed}
+use Rattle.demands.specs.Due.{framed}
 use Rattle.demands.specs.Tests.{Short, Unsound}
 use Rattle.demands.specs.Listed.{Full}
 use Rattle.instances.specs.Opened.{opened}
@@ -23,7 +23,7 @@ use Rattle.instances.specs.Blocks.{nothing, two, broken, lone, room, len
 use Rattle.instances.proofs.Sounds.{lone-sound, room-sound, two-holds, lone-holds, room-holds, lone-tree, room-tree}
 
 -- ── frame, scratch and soundness ──
-pub none-unframed : Unframed (lend nothing 0)
+pub none-unframed : framed (lend nothing 0) ≡ false
 unfolding opened
 none-unframed = refl
 

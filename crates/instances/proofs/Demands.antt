@@ -28,24 +28,24 @@ use Rattle.insert.specs.Insert.{tooLong}
 use Rattle.insert.specs.declared.answer.Inserted.the-variants as inserted
 use Rattle.demands.specs.Calls as calls
 use Rattle.art.proofs.Clashes.{clash-clashes, free-unclashed}
-use Rattle.demands.specs.Calls.{Call, query, ask, edit, search, leaf-tag, check, insert, delete, Outcome, outcome, Promise, run}
+use Rattle.demands.specs.Calls.{Call, query, ask, Edit, edit, search, leaf-tag, check, insert, delete, Outcome, outcome, Promise, run}
 use Rattle.demands.specs.Told.{Told, only, withTotal, withLeaf, withTag, toldBy}
-use Rattle.demands.specs.Histories.{Block, Turn, answered, next, after-all, puts, totals, amended}
+use Rattle.demands.specs.Histories.{Block, Turn, next, after-all, totals}
 use Rattle.demands.specs.Drawn.{drawingOf}
-use Rattle.demands.specs.Accepts.{turn}
 use Rattle.demands.specs.Due.{Due}
+use Rattle.demands.specs.Ledger.{ledger}
 use Rattle.demands.specs.Programs.{seen}
 use Rattle.demands.specs.Demands.{Demands}
 use Rattle.demands.specs.Listed.{holds, finds, takes, InsertsListed}
 use Rattle.demands.proofs.Reading.{sound-reads}
 use Rattle.demands.proofs.Drawings.{drawing-held}
-use Rattle.demands.proofs.Listed.{sound-listed}
 use Rattle.demands.proofs.Outcomes.{one-outcome, promised}
 use Rattle.demands.specs.Frames.{FrameKept}
 use Rattle.demands.proofs.Frames.{frame-kept, frames-kept}
 use Rattle.demands.proofs.Listed.{after-meets}
-use Rattle.demands.proofs.Steps.{step-sound}
-use Rattle.demands.proofs.KeyBytes.{step-bytes}
+use Rattle.demands.proofs.Edits.{edit-changes}
+use Rattle.demands.proofs.Steps.{step-bytes}
+use Rattle.demands.proofs.Tested.{unchecked}
 use Rattle.demands.proofs.Corollaries.{one-tree}
 use Rattle.demands.proofs.Demands.{demands, kept-demands}
 use Rattle.instances.specs.Opened.{opened}
@@ -107,9 +107,12 @@ put-framed : FrameKept (room .words) (room .keys) (three .words) (three .keys)
 unfolding opened
 put-framed = frame-kept (edit (insert C 9)) tt (tag-bytes C refl) (lend room 5) room-bytes
 
+abbrev turn : Edit → (scratch : ℕ) → Turn
+turn e n = record { call = edit e; scratch = replicate n 1 }
+
 -- C in and out again, with a search between
 abbrev there-and-back : List Turn
-there-and-back = turn (insert C 9) (replicate 5 1) ∷ record { call = query (search C); scratch = [] } ∷ turn (delete C) (replicate 5 1) ∷ []
+there-and-back = turn (insert C 9) 5 ∷ record { call = query (search C); scratch = [] } ∷ turn (delete C) 5 ∷ []
 
 back-framed : FrameKept (room .words) (room .keys) (after-all room there-and-back .words) (after-all room there-and-back .keys)
 back-framed = let c : Bytes C = tag-bytes C refl in frames-kept room room-bytes there-and-back (tt, (tt, (tt, tt))) (c, (c, (c, tt)))
@@ -130,19 +133,19 @@ B-found = two-reads .search B (tag-bytes B refl)
 
 -- and so tells the call, made on the block
 abbrev on-two : Call → Told
-on-two c = toldBy (answered two (record { call = c; scratch = replicate 3 1 }))
+on-two c = toldBy (run c (lend two 3) .answer)
 
 B-listed : on-two (query (search B)) ≡ withLeaf 1 (withTotal 8 (only 0))
 unfolding opened
-B-listed = demands .on-sound (lend two 3) two-sound (query (search B)) (tag-bytes B refl) tt ∙ ap (λ (l : Listing Held). finds (lookup B l)) two-holds
+B-listed = demands .on-sound (lend two 3) two-sound (query (search B)) (tag-bytes B refl) unchecked ∙ ap (λ (l : Listing Held). finds (lookup B l)) two-holds
 
 C-unlisted : on-two (query (search C)) ≡ only 1
 unfolding opened
-C-unlisted = demands .on-sound (lend two 3) two-sound (query (search C)) (tag-bytes C refl) tt ∙ ap (λ (l : Listing Held). finds (lookup C l)) two-holds
+C-unlisted = demands .on-sound (lend two 3) two-sound (query (search C)) (tag-bytes C refl) unchecked ∙ ap (λ (l : Listing Held). finds (lookup C l)) two-holds
 
 -- A with another total gives the old one, AB clashes, C has no leaf, and A goes out with its total
 inserted-listed : (t : Tag) → Bytes t → tooLong two-words two-keys t ≡ false → InsertsListed two-sound t (on-two (edit (insert t 9)))
-inserted-listed t bytes short = sound-listed two two-sound (record { call = edit (insert t 9); scratch = replicate 3 1 }) bytes two-places .1 short
+inserted-listed t bytes short = demands .on-sound (lend two 3) two-sound (edit (insert t 9)) bytes (λ e. two-places) .1 short
 
 A-over : on-two (edit (insert A 9)) ≡ withTotal 7 (only 0)
 unfolding opened
@@ -158,7 +161,7 @@ C-leafless = inserted-listed C (tag-bytes C refl) refl .full (free-unclashed C (
 
 A-gone : on-two (edit (delete A)) ≡ withTotal 7 (only 0)
 unfolding opened
-A-gone = demands .on-sound (lend two 3) two-sound (edit (delete A)) (tag-bytes A refl) two-places ∙ ap (λ (l : Listing Held). takes (lookup A l)) two-holds
+A-gone = demands .on-sound (lend two 3) two-sound (edit (delete A)) (tag-bytes A refl) (λ e. two-places) ∙ ap (λ (l : Listing Held). takes (lookup A l)) two-holds
 
 -- the first at or after AB is B
 AB-after : afterOf two-words two-keys (replicate 3 1) AB .result ≡ after-variants.Leaf 1 8
@@ -169,13 +172,13 @@ AB-after = after-meets (lend two 3) AB two-passed ∙ ap (λ (l : Listing Held).
 put-sound : (s : Sound (three .words) (three .keys)) × (totals (held (s .tree)) ≡ (A, 7) ∷ (B, 8) ∷ (C, 9) ∷ [])
 unfolding opened
 put-sound =
-    let z = step-sound room room-sound room-bytes (turn (insert C 9) (replicate 5 1)) (tag-bytes C refl) in
-    (z .0, z .1 ∙ ap (λ (l : Listing Held). amended (totals l) (puts C 9)) room-holds)
+    let c = edit-changes (insert C 9) (lend room 5) (tag-bytes C refl) room-bytes refl room-sound in
+    (c .after, c .enters (ledger ((A, 7) ∷ (B, 8) ∷ []) 2 0) (ap totals room-holds))
 
 -- and key bytes below 256
 put-bytes : Bytes (three .keys)
 unfolding opened
-put-bytes = step-bytes room room-bytes (turn (insert C 9) (replicate 5 1)) (tag-bytes C refl)
+put-bytes = step-bytes room room-bytes (turn (insert C 9) 5) (tag-bytes C refl)
 
 -- ── in either order ──
 -- A and B put into a bare block, and B and A: other words, the same drawing
@@ -195,7 +198,7 @@ orders-draw = drawing-held two-sound ∙ ap (λ (l : Listing Held). draw (totals
 
 -- ── undone ──
 abbrev undone : Block
-undone = next (next spare (turn (insert B 8) (replicate 3 1))) (turn (delete B) (replicate 3 1))
+undone = next (next spare (turn (insert B 8) 3)) (turn (delete B) 3)
 
 -- B put in beside A and taken out: A alone is drawn
 undone-draws : drawingOf (undone .words) (undone .keys) ≡ one A 7

@@ -1,8 +1,8 @@
 -- Each number from 0 to 9 is given, and its row of the table holds where it is: `due-number` and `number-due` on one call for each.
-use mathlib.Core.Path.{_≡_, refl}
+use mathlib.Core.Path.{_≡_, refl, sym}
 use mathlib.Core.List.{List, [], _∷_}
 use lib.ListN.{replicate}
-use mathlib.Core.Bool.{true}
+use mathlib.Core.Bool.{true, true≢false}
 use Rattle.pointed.proofs.Points.{tag-bytes}
 use Rattle.demands.specs.Calls.{Call, Slices, checks, run, query, ask, edit, start, minimum, leaf-facts, check, insert, delete}
 use Rattle.demands.specs.Told.{toldBy}
@@ -63,16 +63,16 @@ by-number = given-dues table byted computed
 dues : Dues table
 unfolding opened
 dues =
-    listed-row (edit (delete A)) (lend two 3) two-passed (tag-bytes A refl) (two-passed .room) refl
+    listed-row (edit (delete A)) (lend two 3) two-passed (tag-bytes A refl) (λ e. two-passed .room) refl
     then due.minimum-walked refl (way.rootless refl)
     then due.insert-long {t = replicate 65 65} refl
-    then listed-row (edit (insert AB 1)) (lend two 3) two-passed (tag-bytes AB refl) (two-passed .room) refl
-    then listed-row (edit (insert C 1)) (lend two 3) two-passed (tag-bytes C refl) (two-passed .room) refl
-    then listed-row (edit (insert B 1)) (lend lone 2) lone-passed (tag-bytes B refl) (lone-passed .room) refl
+    then listed-row (edit (insert AB 1)) (lend two 3) two-passed (tag-bytes AB refl) (λ e. two-passed .room) refl
+    then listed-row (edit (insert C 1)) (lend two 3) two-passed (tag-bytes C refl) (λ e. two-passed .room) refl
+    then listed-row (edit (insert B 1)) (lend lone 2) lone-passed (tag-bytes B refl) (λ e. lone-passed .room) refl
     then due.checked-unsound refl (broken-unsound .fits) (broken-unsound .room) (broken-unsound .not-sound)
     then due.checked-short refl (two-short .fits) (short-not (lend two 2) two-short)
     then due.start-refused refl
-    then due.leaf-outside (due.of-facts _) refl refl
+    then due.leaf-absent (due.of-facts _) refl (λ u. true≢false (sym (u .1)))
     then tt
 
 by-rows : Given table

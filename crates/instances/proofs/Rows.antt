@@ -1,8 +1,10 @@
 -- Every row of the table `Due` is met by a call on a small block, so that none of its conditions is idle; and the call gives the row's number. The rows for what a walk meets are in `Ways`.
 use Prim.Native.Nat.{ℕ}
 use mathlib.Core.Path.{_≡_, refl, sym, ap, _∙_}
+use mathlib.Core.Logic.{_≢_}
 use mathlib.Core.List.{List, [], _∷_}
 use mathlib.Core.Option.{none, some}
+use mathlib.Core.Bool.{true≢false}
 use native.Mathlib.Omega.{arith}
 use lib.ListN.{replicate}
 use Rattle.art.specs.Tags.{Tag}
@@ -17,7 +19,7 @@ use Rattle.demands.specs.Listed.{holds, takes}
 use Rattle.demands.proofs.Numbers.{short-not}
 use Rattle.demands.proofs.Demands.{demands}
 use Rattle.demands.specs.Due as due
-use Rattle.demands.specs.Due.{InUse, Numbered}
+use Rattle.demands.specs.Due.{InUse}
 use Rattle.instances.specs.Opened.{opened}
 use Rattle.instances.specs.Blocks.{nothing, spare, two, broken, overlong, astray, lone, room, caps, lend, A, B, C, AB, holding}
 use Rattle.instances.specs.Lines.{Line, line, Dues, Given, _then_}
@@ -47,7 +49,7 @@ starts-due = due.start-refused refl then due.start-refused refl then due.start-d
 
 -- ── the queries, where no frame fits ──
 -- one with a number there gives no tag
-numbered : (q : Query) → number (query q) (lend nothing 0) ≡ 6 → Numbered q
+numbered : (q : Query) → number (query q) (lend nothing 0) ≡ 6 → (n : ℕ) → q ≢ leaf-tag n
 numbered q e n z = let six : _≡_ {A = ℕ} 0 6 = sym (ap (λ (r : Query). number (query r) (lend nothing 0)) z) ∙ e in omega arith
 
 abbrev frameless : List Line
@@ -74,19 +76,19 @@ frameless-due =
 -- ── a leaf number: of no pool, free, with a broken rule, with a reference that names no leaf, the last, and the first ──
 first-used : InUse (lend two 0) 0
 unfolding opened
-first-used = record { fits = refl; pool = refl; used = λ e. omega arith }
+first-used = (refl, refl, λ e. omega arith)
 
 last-used : InUse (lend two 0) 1
 unfolding opened
-last-used = record { fits = refl; pool = refl; used = λ e. omega arith }
+last-used = (refl, refl, λ e. omega arith)
 
 overlong-used : InUse (lend overlong 0) 0
 unfolding opened
-overlong-used = record { fits = refl; pool = refl; used = λ e. omega arith }
+overlong-used = (refl, refl, λ e. omega arith)
 
 astray-used : InUse (lend astray 0) 0
 unfolding opened
-astray-used = record { fits = refl; pool = refl; used = λ e. omega arith }
+astray-used = (refl, refl, λ e. omega arith)
 
 abbrev leaves : List Line
 leaves =
@@ -106,14 +108,14 @@ leaves =
 leaves-due : Dues leaves
 unfolding opened
 leaves-due =
-    due.leaf-outside (due.of-next _) refl refl
-    then due.leaf-free (due.of-next _) refl refl refl
+    due.leaf-absent (due.of-next _) refl (λ u. true≢false (sym (u .1)))
+    then due.leaf-absent (due.of-next _) refl (λ u. u .2 refl)
     then due.leaf-broken (due.of-next _) overlong-used refl
     then due.next-unnamed astray-used refl (λ e. omega arith) refl
     then due.next-end last-used refl refl
     then due.next-done first-used refl (λ e. omega arith) refl
-    then due.leaf-outside (due.of-facts _) refl refl
-    then due.leaf-free (due.of-facts _) refl refl refl
+    then due.leaf-absent (due.of-facts _) refl (λ u. true≢false (sym (u .1)))
+    then due.leaf-absent (due.of-facts _) refl (λ u. u .2 refl)
     then due.leaf-broken (due.of-facts _) overlong-used refl
     then due.facts-done first-used refl
     then due.tag-given
@@ -144,17 +146,17 @@ scratched-due =
     due.checked-unframed refl none-unframed
     then due.checked-short refl (two-short .fits) (short-not (lend two 2) two-short)
     then due.checked-unsound refl (broken-unsound .fits) (broken-unsound .room) (broken-unsound .not-sound)
-    then listed-row (ask check) (lend two 3) two-passed tt (two-passed .room) refl
+    then listed-row (ask check) (lend two 3) two-passed tt (λ e. two-passed .room) refl
     then due.checked-unframed refl none-unframed
     then due.checked-short refl (two-short .fits) (short-not (lend two 2) two-short)
     then due.checked-unsound refl (broken-unsound .fits) (broken-unsound .room) (broken-unsound .not-sound)
-    then listed-row (ask (first-at-or-after C)) (lend two 3) two-passed c (two-passed .room) refl
-    then listed-row (ask (first-at-or-after AB)) (lend two 3) two-passed ab (two-passed .room) refl
+    then listed-row (ask (first-at-or-after C)) (lend two 3) two-passed c (λ e. two-passed .room) refl
+    then listed-row (ask (first-at-or-after AB)) (lend two 3) two-passed ab (λ e. two-passed .room) refl
     then due.checked-unframed refl none-unframed
     then due.checked-short refl (two-short .fits) (short-not (lend two 2) two-short)
     then due.checked-unsound refl (broken-unsound .fits) (broken-unsound .room) (broken-unsound .not-sound)
-    then listed-row (edit (delete C)) (lend two 3) two-passed c (two-passed .room) refl
-    then listed-row (edit (delete A)) (lend two 3) two-passed a (two-passed .room) refl
+    then listed-row (edit (delete C)) (lend two 3) two-passed c (λ e. two-passed .room) refl
+    then listed-row (edit (delete A)) (lend two 3) two-passed a (λ e. two-passed .room) refl
     then tt
 
 abbrev inserts : List Line
@@ -177,11 +179,11 @@ inserts-due =
     then due.checked-unframed refl none-unframed
     then due.checked-short refl (two-short .fits) (short-not (lend two 2) two-short)
     then due.checked-unsound refl (broken-unsound .fits) (broken-unsound .room) (broken-unsound .not-sound)
-    then listed-row (edit (insert A 1)) (lend two 3) two-passed a (two-passed .room) refl
-    then listed-row (edit (insert AB 1)) (lend two 3) two-passed ab (two-passed .room) refl
-    then listed-row (edit (insert C 1)) (lend two 3) two-passed c (two-passed .room) refl
-    then listed-row (edit (insert B 1)) (lend lone 2) lone-passed b (lone-passed .room) refl
-    then listed-row (edit (insert C 1)) (lend room 5) room-passed c (room-passed .room) refl
+    then listed-row (edit (insert A 1)) (lend two 3) two-passed a (λ e. two-passed .room) refl
+    then listed-row (edit (insert AB 1)) (lend two 3) two-passed ab (λ e. two-passed .room) refl
+    then listed-row (edit (insert C 1)) (lend two 3) two-passed c (λ e. two-passed .room) refl
+    then listed-row (edit (insert B 1)) (lend lone 2) lone-passed b (λ e. lone-passed .room) refl
+    then listed-row (edit (insert C 1)) (lend room 5) room-passed c (λ e. room-passed .room) refl
     then tt
 
 -- ── so each gives its number ──
@@ -206,7 +208,7 @@ told t s = toldBy (run (edit (insert t 1)) s .answer)
 
 held-told : told A (lend two 3) ≡ takes (some (holding 0 7))
 unfolding opened
-held-told = demands .on-sound (lend two 3) (two-passed .sound) (edit (insert A 1)) a (two-passed .room) .1 refl .over (holding 0 7) (ap (lookup A) two-holds)
+held-told = demands .on-sound (lend two 3) (two-passed .sound) (edit (insert A 1)) a (λ e. two-passed .room) .1 refl .over (holding 0 7) (ap (lookup A) two-holds)
 
 AB-clash : (lookup AB (holds (two-passed .sound)) ≡ none) × Clashes AB (holds (two-passed .sound))
 unfolding opened
@@ -214,16 +216,16 @@ AB-clash = clash-clashes AB (holds (two-passed .sound)) (ap (judge AB) two-holds
 
 clash-told : told AB (lend two 3) ≡ only 3
 unfolding opened
-clash-told = demands .on-sound (lend two 3) (two-passed .sound) (edit (insert AB 1)) ab (two-passed .room) .1 refl .clashes (AB-clash .0) (AB-clash .1)
+clash-told = demands .on-sound (lend two 3) (two-passed .sound) (edit (insert AB 1)) ab (λ e. two-passed .room) .1 refl .clashes (AB-clash .0) (AB-clash .1)
 
 full-told : told C (lend two 3) ≡ only 4
 unfolding opened
-full-told = demands .on-sound (lend two 3) (two-passed .sound) (edit (insert C 1)) c (two-passed .room) .1 refl .full (free-unclashed C (holds (two-passed .sound)) (ap (judge C) two-holds) .1) two-full
+full-told = demands .on-sound (lend two 3) (two-passed .sound) (edit (insert C 1)) c (λ e. two-passed .room) .1 refl .full (free-unclashed C (holds (two-passed .sound)) (ap (judge C) two-holds) .1) two-full
 
 lacking-told : told B (lend lone 2) ≡ only 5
 unfolding opened
-lacking-told = demands .on-sound (lend lone 2) (lone-passed .sound) (edit (insert B 1)) b (lone-passed .room) .1 refl .lacks (free-unclashed B (holds (lone-passed .sound)) (ap (judge B) lone-holds) .1) lone-not-full lone-lacks
+lacking-told = demands .on-sound (lend lone 2) (lone-passed .sound) (edit (insert B 1)) b (λ e. lone-passed .room) .1 refl .lacks (free-unclashed B (holds (lone-passed .sound)) (ap (judge B) lone-holds) .1) lone-not-full lone-lacks
 
 new-told : told C (lend room 5) ≡ only 0
 unfolding opened
-new-told = demands .on-sound (lend room 5) (room-passed .sound) (edit (insert C 1)) c (room-passed .room) .1 refl .new (free-unclashed C (holds (room-passed .sound)) (ap (judge C) room-holds) .1) room-not-full room-not-lacks
+new-told = demands .on-sound (lend room 5) (room-passed .sound) (edit (insert C 1)) c (λ e. room-passed .room) .1 refl .new (free-unclashed C (holds (room-passed .sound)) (ap (judge C) room-holds) .1) room-not-full room-not-lacks

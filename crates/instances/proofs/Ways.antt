@@ -2,6 +2,7 @@
 use Prim.Native.Nat.{ℕ, zero, suc, _+_}
 use mathlib.Core.Path.{_≡_, refl, subst}
 use mathlib.Core.List.{List, [], _∷_}
+use mathlib.Core.Bool.{true}
 use native.Mathlib.Omega.{arith}
 use Rattle.prefix.specs.declared.lookup.PrefixMatchBehavior.the-variants.{Pessimistic}
 use Rattle.frames.specs.Frame.{frame}
@@ -14,7 +15,7 @@ use Rattle.demands.specs.Calls.{query, search, prefix-search, minimum, maximum}
 use Rattle.demands.specs.Histories.{Block}
 use Rattle.demands.specs.Due as due
 use Rattle.demands.specs.Way as way
-use Rattle.demands.specs.Way.{Stands, Comes, Descends}
+use Rattle.demands.specs.Way.{stands, Comes, Descends}
 use Rattle.instances.specs.Opened.{opened}
 use Rattle.instances.specs.Blocks.{bare, two, overlong, afar, ring, long, lend, A, B, C, AB}
 use Rattle.instances.specs.Lines.{Line, line, Dues, Given, Byted, _then_}
@@ -28,18 +29,18 @@ abbrev Descending : Block → Edge → (left : ℕ) → Place → Type 0
 Descending b edge left x = Descends (frame (b .words)) (b .words) (b .keys) edge left x
 
 abbrev Standing : Block → Place → Type 0
-Standing b x = Stands (frame (b .words)) (b .words) (b .keys) x
+Standing b x = stands (frame (b .words)) (b .words) (b .keys) x ≡ true
 
 abbrev top : Place
 top = inner-place 1 0
 
 top-stands : Standing two top
 unfolding opened
-top-stands = record { pool = refl; rule = refl }
+top-stands = refl
 
 first-stands : Standing two (leaf-place 0)
 unfolding opened
-first-stands = record { pool = refl; rule = refl }
+first-stands = refl
 
 -- ── one record and its two leaves ──
 to-top : (t : Tag) → Coming two t 64 top 0
@@ -53,7 +54,7 @@ past-first = way.down (to-top AB) top-stands refl (λ e. omega arith)
 -- ── damage: a leaf that is too long by its word 1, a root that no pool has, a record that is its own child ──
 overlong-top : Standing overlong top
 unfolding opened
-overlong-top = record { pool = refl; rule = refl }
+overlong-top = refl
 
 to-overlong : Coming overlong A 63 (leaf-place 0) 1
 unfolding opened
@@ -61,7 +62,7 @@ to-overlong = way.down {left = 63} {n = 0} (way.at-root (λ e. omega arith)) ove
 
 overlong-last : Standing overlong (leaf-place 1)
 unfolding opened
-overlong-last = record { pool = refl; rule = refl }
+overlong-last = refl
 
 to-overlong-last : Coming overlong B 63 (leaf-place 1) 1
 unfolding opened
@@ -69,7 +70,7 @@ to-overlong-last = way.down {left = 63} {n = 0} (way.at-root (λ e. omega arith)
 
 ring-top : Standing ring top
 unfolding opened
-ring-top = record { pool = refl; rule = refl }
+ring-top = refl
 
 -- round and round, until no inner record is left on the path
 around : (passed left : ℕ) → passed + left ≡ 64 → Descending ring Low left top
@@ -99,16 +100,16 @@ walks-due : Dues walks
 unfolding opened
 walks-due =
     due.search-walked refl (way.no-root refl)
-    then due.search-walked refl (way.damage {left = 64} {depth = 0} {b = Pessimistic} (way.at-root (λ e. omega arith)) (way.outside refl))
-    then due.search-walked refl (way.damage to-overlong (way.own-rule refl))
+    then due.search-walked refl (way.damage {left = 64} {depth = 0} {b = Pessimistic} (way.at-root (λ e. omega arith)) (way.fallen refl))
+    then due.search-walked refl (way.damage to-overlong (way.fallen refl))
     then due.search-walked refl (way.the-leaf to-overlong-last overlong-last refl)
-    then due.search-walked refl (way.off-prefix {left = 63} {k = 1} {n = 0} {depth = 0} {b = Pessimistic} (way.at-root (λ e. omega arith)) (record { pool = refl; rule = refl }) refl)
+    then due.search-walked refl (way.off-prefix {left = 63} {k = 1} {n = 0} {depth = 0} {b = Pessimistic} (way.at-root (λ e. omega arith)) refl refl)
     then due.search-walked refl (way.no-child (to-top C) top-stands refl refl)
     then due.search-walked refl (way.other-leaf past-first first-stands refl)
     then due.prefix-walked refl (way.the-leaf past-first first-stands refl)
     then due.minimum-walked refl (way.rootless refl)
     then due.minimum-walked refl (way.broken-off (around 64 0 refl) way.none-left)
-    then due.maximum-walked refl (way.a-leaf {left = 63} {n = 1} (way.child {left = 63} {k = 1} {n = 0} (way.root (λ e. omega arith)) ring-top) (record { pool = refl; rule = refl }))
+    then due.maximum-walked refl (way.a-leaf {left = 63} {n = 1} (way.child {left = 63} {k = 1} {n = 0} (way.root (λ e. omega arith)) ring-top) refl)
     then tt
 
 byted : Byted walks

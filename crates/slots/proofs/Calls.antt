@@ -16,9 +16,8 @@ use Rattle.art.specs.Stores.{inner-place}
 use Rattle.reading.specs.Answers.{Bytes}
 use Rattle.whole.specs.Sound.{Sound}
 use Rattle.insert.proofs.Calls.{short-fits}
-use Rattle.demands.specs.Calls.{insert, delete, run}
+use Rattle.demands.specs.Calls.{edit, insert, delete, run}
 use Rattle.demands.specs.Histories.{Block}
-use Rattle.demands.specs.Accepts.{turn}
 use Rattle.demands.specs.Programs.{seen, nextBy}
 use Rattle.slots.specs.Slots.{Slotted, slottedAt, LowestSlot, SlotsIn, in-kept, in-added, in-moved, in-branched, in-freed, SlotsOut, out-kept, out-removed, out-moved, out-freed, StaysIn, StaysOut}
 use Rattle.demands.proofs.Cases.{insert-cases, delete-cases}
@@ -30,7 +29,7 @@ use Rattle.slots.proofs.Deletes.{gone-out}
 -- A child that is added in place takes the lowest unused slot, and every other byte keeps its slot.
 -- The children of a record that moves in have slots 1, 2, .. in byte order, and the new child has the next. A new branching has slots 1 and 2 in byte order.
 pub insert-slots : (b : Block) → Sound (b .words) (b .keys) → Bytes (b .keys) → (t : Tag) (total : ℕ) → Bytes t → (q : List ℕ)
-    → let f = frame (b .words) in let b′ = nextBy (seen run) b (turn (insert t total) q) in (n : ℕ) → inPool f (inner-place 3 n) ≡ true → SlotsIn f (b .words) (b′ .words) n
+    → let f = frame (b .words) in let b′ = nextBy (seen run) b (edit (insert t total)) q in (n : ℕ) → inPool f (inner-place 3 n) ≡ true → SlotsIn f (b .words) (b′ .words) n
 insert-slots b z k t total h q n hx =
     insert-cases (b .words) (b .keys) t total (λ o. SlotsIn (frame (b .words)) (b .words) (o .words) n) (λ a r e. in-kept refl)
     (λ r s short site leaf gap e. new-in z t h n hx k (short-fits (b .words) (b .keys) t (z .fits) short) leaf site gap total e) (λ r s leaf e. over-in z t h n hx leaf total e) q
@@ -38,7 +37,7 @@ insert-slots b z k t total h q n hx =
 -- the slots of every record of kind 3 after a delete on a sound block, accepted or not.
 -- A child that is taken out in place clears its byte's slot, and every other byte keeps its slot. The children of a record that moves in have slots 1, 2, .. in byte order.
 pub delete-slots : (b : Block) → Sound (b .words) (b .keys) → (t : Tag) → Bytes t → (q : List ℕ)
-    → let f = frame (b .words) in let b′ = nextBy (seen run) b (turn (delete t) q) in (n : ℕ) → inPool f (inner-place 3 n) ≡ true → SlotsOut (slottedAt f (b .words) n) (slottedAt f (b′ .words) n)
+    → let f = frame (b .words) in let b′ = nextBy (seen run) b (edit (delete t)) q in (n : ℕ) → inPool f (inner-place 3 n) ≡ true → SlotsOut (slottedAt f (b .words) n) (slottedAt f (b′ .words) n)
 delete-slots b z t h q n hx =
     delete-cases (b .words) (b .keys) t (λ o. SlotsOut (slottedAt (frame (b .words)) (b .words) n) (slottedAt (frame (b .words)) (o .words) n)) (λ a r e. out-kept refl) (λ r s cut leaf gap e. gone-out z t h n hx cut leaf gap e) q
 
@@ -88,12 +87,12 @@ out-stays u v (out-freed used e) = absurd (v (ap (λ (s : Slotted). s .used) e))
 
 -- a record of kind 3 that is in use before and after an insert: a byte that had a slot keeps it, and a byte that has one only now took the lowest that was unused
 pub insert-in-place : (b : Block) → Sound (b .words) (b .keys) → Bytes (b .keys) → (t : Tag) (total : ℕ) → Bytes t → (q : List ℕ)
-    → let f = frame (b .words) in let b′ = nextBy (seen run) b (turn (insert t total) q) in (n : ℕ) → inPool f (inner-place 3 n) ≡ true
+    → let f = frame (b .words) in let b′ = nextBy (seen run) b (edit (insert t total)) q in (n : ℕ) → inPool f (inner-place 3 n) ≡ true
     → let before = slottedAt f (b .words) n in let after = slottedAt f (b′ .words) n in before .used ≢ 0 → after .used ≢ 0 → StaysIn (before .slots) (after .slots)
 insert-in-place b z k t total h q n hx u v = in-stays u v (insert-slots b z k t total h q n hx)
 
 -- a record of kind 3 that is in use before and after a delete: a byte keeps its slot, or has none
 pub delete-in-place : (b : Block) → Sound (b .words) (b .keys) → (t : Tag) → Bytes t → (q : List ℕ)
-    → let f = frame (b .words) in let b′ = nextBy (seen run) b (turn (delete t) q) in (n : ℕ) → inPool f (inner-place 3 n) ≡ true
+    → let f = frame (b .words) in let b′ = nextBy (seen run) b (edit (delete t)) q in (n : ℕ) → inPool f (inner-place 3 n) ≡ true
     → let before = slottedAt f (b .words) n in let after = slottedAt f (b′ .words) n in before .used ≢ 0 → after .used ≢ 0 → StaysOut (before .slots) (after .slots)
 delete-in-place b z t h q n hx u v = out-stays u v (delete-slots b z t h q n hx)
