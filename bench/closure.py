@@ -158,7 +158,9 @@ def follow(path, name):
 
 def main():
     words = [w for w in sys.argv[1:] if w != "-v"]
-    path, name = words if words else ("demands/specs/Demands.antt", "Demands")
+    if len(words) not in (0, 2):
+        sys.exit(__doc__)
+    path, name = words or ("demands/specs/Demands.antt", "Demands")
     seen, declared, library = follow(path, name)
     total = fixed = 0
     for p in sorted({p for p, _ in seen}):

@@ -5,7 +5,7 @@ use Rattle.records.specs.View.{Held}
 use Rattle.art.specs.Tags.{Listing}
 use Rattle.reading.specs.Answers.{Bytes}
 use Rattle.demands.specs.Calls as calls
-use Rattle.demands.specs.Calls.{Call, Query, Edit, Slices, Answer, run}
+use Rattle.demands.specs.Calls.{Call, Query, Edit, Slices, run}
 
 -- the words and key bytes of a directory
 pub record Block : Type 0 where
@@ -21,11 +21,7 @@ pub record Turn : Type 0 where
   pub call : Call
   pub scratch : List ℕ
 
--- one call on a block: its answer
-abbrev pub answered : Block → Turn → Answer
-answered b t = run (t .call) (lent b (t .scratch)) .answer
-
--- and the block afterwards
+-- the block after a call
 abbrev pub next : Block → Turn → Block
 next b t = let s = run (t .call) (lent b (t .scratch)) .slices in record { words = s .words; keys = s .keys }
 

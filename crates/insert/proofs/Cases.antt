@@ -82,11 +82,11 @@ words-long {f} {words} {keys} w = totals words keys (w .fits) .long
 pub still-long : {f : Frame} {words keys : List ℕ} → FrameOf f words keys → (out : List ℕ) → length out ≡ length words → 16 ≤ length out
 still-long w out e = omega (arith, words-long w)
 
--- count is the tag count as it was read, l the words with the tree, m those with the leaf and the list, o those with the new count
-pub new-made : (f : Frame) (keys tag : List ℕ) (total : ℕ) (site : Site) (n : ℕ) (gap : Gap) (words : List ℕ) {count ref : ℕ} {l m o : List ℕ} → count ≡ countWord words → ref ≡ leaf-ref n
-    → l ≡ hung f keys tag site ref words → m ≡ leafIn f n (length tag) (gap .previous) (gap .next) total l → o ≡ setTrailer 14 (count + 1) m
-    → o ≡ newWords f keys tag total site n gap words
+-- count is the tag count as it was read, next the one that is written, l the words with the tree, m those with the leaf and the list, o those with the new count
+pub new-made : {count next : ℕ} {m o : List ℕ} → o ≡ setTrailer 14 next m → next ≡ count + 1
+    → (f : Frame) (keys tag : List ℕ) (total : ℕ) (site : Site) (n : ℕ) (gap : Gap) (words : List ℕ) {ref : ℕ} {l : List ℕ} → count ≡ countWord words → ref ≡ leaf-ref n
+    → l ≡ hung f keys tag site ref words → m ≡ leafIn f n (length tag) (gap .previous) (gap .next) total l → o ≡ newWords f keys tag total site n gap words
 unfolding newWords
-new-made f keys tag total site n gap words {count} {ref} {l} {m} ec er el em eo =
+new-made {count} {next} eo en f keys tag total site n gap words ec er el em =
     let leaf : List ℕ → List ℕ = leafIn f n (length tag) (gap .previous) (gap .next) total in
-    eo ∙ ap (setTrailer 14 (count + 1)) (em ∙ ap leaf (el ∙ ap (λ (k : ℕ). hung f keys tag site k words) er)) ∙ ap (λ (k : ℕ). setTrailer 14 (k + 1) (leaf (hung f keys tag site (leaf-ref n) words))) ec
+    eo ∙ ap (setTrailer 14 next) (em ∙ ap leaf (el ∙ ap (λ (k : ℕ). hung f keys tag site k words) er)) ∙ ap (λ (k : ℕ). setTrailer 14 k (leaf (hung f keys tag site (leaf-ref n) words))) (en ∙ ap (λ (k : ℕ). k + 1) ec)

@@ -127,16 +127,17 @@ module _ {f : Frame} {words keys : List ℕ} (w : FrameOf f words keys) (n : ℕ
 pub tag-fits : {f : Frame} {words keys : List ℕ} → FrameOf f words keys → (tag : List ℕ) → length tag ≤ f .form .limit → Fits w32 (length tag)
 tag-fits w tag h = omega (arith, limit-small w)
 
--- a leaf is put in, and taken out, where its words are written after the links of its neighbours
-module _ (f : Frame) (n p q : ℕ) (words : List ℕ) {l out : List ℕ} where
-  pub leaf-in-by : (len total : ℕ) {ref : ℕ} → ref ≡ leaf-ref n → out ≡ putAt f l (leaf-place n) (leafWords len p q total)
-      → l ≡ setPrevious f q ref (setNext f p ref words) → out ≡ leafIn f n len p q total words
+-- a leaf is put in, and taken out, where its words are written after the links of its neighbours; next is what the one before then names
+module _ (f : Frame) (p q : ℕ) (words : List ℕ) {l : List ℕ} where
+  pub leaf-in-by : {ref next : ℕ} → l ≡ setPrevious f q ref (setNext f p next words) → next ≡ ref
+      → (n len total : ℕ) {out : List ℕ} → ref ≡ leaf-ref n → out ≡ putAt f l (leaf-place n) (leafWords len p q total) → out ≡ leafIn f n len p q total words
   unfolding leafIn
-  leaf-in-by len total r e h = e ∙ ap (λ (x : List ℕ). putAt f x (leaf-place n) (leafWords len p q total)) (h ∙ ap (λ (k : ℕ). setPrevious f q k (setNext f p k words)) r)
+  leaf-in-by h s n len total r e =
+      e ∙ ap (λ (x : List ℕ). putAt f x (leaf-place n) (leafWords len p q total)) (h ∙ ap₂ (λ (j k : ℕ). setPrevious f q j (setNext f p k words)) r (s ∙ r))
 
-  pub leaf-out-by : out ≡ putAt f l (leaf-place n) (replicate 6 0) → l ≡ setPrevious f q p (setNext f p q words) → out ≡ leafOut f n p q words
+  pub leaf-out-by : (n : ℕ) {out : List ℕ} → out ≡ putAt f l (leaf-place n) (replicate 6 0) → l ≡ setPrevious f q p (setNext f p q words) → out ≡ leafOut f n p q words
   unfolding leafOut
-  leaf-out-by e h = e ∙ ap (λ (x : List ℕ). putAt f x (leaf-place n) (replicate 6 0)) h
+  leaf-out-by n e h = e ∙ ap (λ (x : List ℕ). putAt f x (leaf-place n) (replicate 6 0)) h
 
 -- a frame fits words that equal those that it fits
 pub fits-words : {f : Frame} {l m keys : List ℕ} → FrameOf f l keys → m ≡ l → FrameOf f m keys

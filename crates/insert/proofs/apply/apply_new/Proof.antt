@@ -1,4 +1,5 @@
 -- `apply::apply_new` meets its contract: the tree, then the leaf and the list, then the tag count, which was read first.
+use mathlib.Core.Path.{refl}
 use native.Mathlib.Omega.{arith}
 use Rattle.points.proofs.Here.{leaf-small}
 use Rattle.insert.proofs.Cases.{words-long, still-long, site-for, ref-some, new-made}
@@ -19,7 +20,7 @@ set-trailer-requires : tie.Need-set-trailer-requires
 set-trailer-requires c κs = (search still-long, omega arith)
 
 returns : tie.Need-returns
-returns c = (search new-made, search)
+returns c = (search (new-made (c .before .before .set-trailer .ensures) refl), search)
 
 pub apply-new-spec : {M : Type 1} → statement M
 apply-new-spec =

@@ -1,6 +1,7 @@
 -- `compare::shared_bytes` meets its contract: both agree before `i`, so what they share is `i` and what is left of them shares.
 use Prim.Native.Nat.{_-_}
 use lib.ListN.{length}
+use native.Mathlib.Omega.{arith}
 use Rattle.lists.proofs.Compares.{Shared, shared-start, shared-on, shared-off, shared-end, shared-out}
 use borrow.Author.Needs.{needs}
 use Rattle.lists.proofs.compare.shared_bytes.Statement.{statement}
@@ -16,10 +17,10 @@ loop-holds : tie.Need-loop-holds Inv-loop μ-loop
 loop-holds c = shared-start
 
 loop-again : tie.Need-loop-again Inv-loop μ-loop
-loop-again c = shared-on (c .before .before .before .before .before .loop .inv) (c .if2 .taken) (search needs) (search needs)
+loop-again c = shared-on (c .before .before .before .before .before .loop .inv) (c .if2 .taken) (omega arith) (search needs)
 
 returns : tie.Need-returns Inv-loop μ-loop
-returns c = shared-off (c .before .before .before .before .before .loop .inv) (c .if2 .left) (search needs) (search needs)
+returns c = shared-off (c .before .before .before .before .before .loop .inv) (c .if2 .left) (omega arith) (search needs)
 
 returns-2 : tie.Need-returns-2 Inv-loop μ-loop
 returns-2 c = shared-out (c .before .before .loop .inv) (search needs)

@@ -1,4 +1,5 @@
 -- `leaf_node::leaf_in` meets its contract: each write leaves the frame as it was, so that the next one can be made.
+use mathlib.Core.Path.{refl}
 use native.Mathlib.Omega.{arith}
 use Rattle.points.proofs.Here.{leaf-small}
 use Rattle.writes.proofs.Spots.{tag-fits, leaf-in-by}
@@ -14,7 +15,8 @@ link-gap-requires : tie.Need-link-gap-requires
 link-gap-requires c κs = (search keys-kept, search)
 
 returns : tie.Need-returns
-returns c = (search leaf-in-by, search)
+returns c =
+    let linked = c .before .before .before .before .before .before .before .link-gap in (search (leaf-in-by _ _ _ _ (linked .ensures .0) refl), search)
 
 pub leaf-in-spec : {M : Type 1} → statement M
 leaf-in-spec =
