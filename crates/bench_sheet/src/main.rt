@@ -15,18 +15,23 @@ const KEYS: usize = 16384;
 const SCRATCH: usize = 260;
 
 // An empty directory with that room.
-fn start(words: &mut [u32], keys: &mut [u8]) {
+fn start(words: &mut [u32; WORDS], keys: &mut [u8; KEYS]) {
     let number = directory_c::directory_start(words, keys, 1, 1, 1, 1, 256);
     text::numbers(b"start gives #\n", number as u64, 0, 0);
 }
 
 // Scratch is lent for one call, so each call that wants it has its own.
-fn put(words: &mut [u32], keys: &mut [u8], tag: &[u8], total: u64) -> DirectoryChanged {
+fn put(
+    words: &mut [u32; WORDS],
+    keys: &mut [u8; KEYS],
+    tag: &[u8],
+    total: u64,
+) -> DirectoryChanged {
     let mut scratch = [0u8; SCRATCH];
     directory_c::directory_insert(words, keys, &mut scratch, tag, total)
 }
 
-fn take_out(words: &mut [u32], keys: &mut [u8], tag: &[u8]) -> DirectoryChanged {
+fn take_out(words: &mut [u32; WORDS], keys: &mut [u8; KEYS], tag: &[u8]) -> DirectoryChanged {
     let mut scratch = [0u8; SCRATCH];
     directory_c::directory_delete(words, keys, &mut scratch, tag)
 }
@@ -49,36 +54,38 @@ fn search(words: &[u32], keys: &[u8], name: &[u8], tag: &[u8]) {
 }
 
 // A call on a tag, under the name that it has in the lines.
-fn call(words: &mut [u32], keys: &mut [u8], name: &[u8], tag: &[u8], op: u32, total: u64) {
-    if op == steps::SEARCH {
-        search(words, keys, name, tag);
-        return;
+fn call(
+    words: &mut [u32; WORDS],
+    keys: &mut [u8; KEYS],
+    name: &[u8],
+    tag: &[u8],
+    op: u32,
+    total: u64,
+) {
+    match op {
+        steps::SEARCH => search(words, keys, name, tag),
+        steps::INSERT => {
+            let a = put(words, keys, tag, total);
+            let form = b"insert $ with # gives #, total #\n";
+            text::fill(form, name, total, a.number as u64, a.total);
+        }
+        _ => {
+            let a = take_out(words, keys, tag);
+            let form = b"delete $ gives #, total #\n";
+            text::fill(form, name, a.number as u64, a.total, 0);
+        }
     }
-    if op == steps::INSERT {
-        let a = put(words, keys, tag, total);
-        let form = b"insert $ with # gives #, total #\n";
-        text::fill(form, name, total, a.number as u64, a.total);
-        return;
-    }
-    let a = take_out(words, keys, tag);
-    text::fill(
-        b"delete $ gives #, total #\n",
-        name,
-        a.number as u64,
-        a.total,
-        0,
-    );
 }
 
 // As many As; of 64 the last may be another.
-fn on_run(words: &mut [u32], keys: &mut [u8], name: &[u8], s: Step) {
+fn on_run(words: &mut [u32; WORDS], keys: &mut [u8; KEYS], name: &[u8], s: Step) {
     let mut run = [b'A'; 65];
     let n = steps::run_length(s.1);
     run[63] = steps::last_byte(s.1);
     call(words, keys, name, &run[0..n], s.0, s.2);
 }
 
-fn on_tag(words: &mut [u32], keys: &mut [u8], s: Step) {
+fn on_tag(words: &mut [u32; WORDS], keys: &mut [u8; KEYS], s: Step) {
     let names = b"64 bytes|65 bytes|63 bytes|64 bytes, the last another|B once more|BB|L14A|L14B";
     let name = text::read::word(names, s.1, b'|');
     if s.1 <= steps::PARTING {
@@ -117,7 +124,7 @@ fn accepted(number: u32, byte: u32) -> u32
 }
 
 // The tag of one byte goes in with the total 1000 + byte, or out.
-fn byte_turn(words: &mut [u32], keys: &mut [u8], op: u32, byte: u32) -> u32
+fn byte_turn(words: &mut [u32; WORDS], keys: &mut [u8; KEYS], op: u32, byte: u32) -> u32
     ensures { λ r. ⌜ r ≤ 1 ⌝ }
 {
     let tag = [(byte % 256) as u8];
@@ -130,7 +137,7 @@ fn byte_turn(words: &mut [u32], keys: &mut [u8], op: u32, byte: u32) -> u32
 }
 
 // All 256 one-byte tags, the lowest first, with a line where the root's kind changes.
-fn all_bytes(words: &mut [u32], keys: &mut [u8], op: u32) {
+fn all_bytes(words: &mut [u32; WORDS], keys: &mut [u8; KEYS], op: u32) {
     let mut n: u32 = 0;
     let mut kind = root_kind(words);
     let mut byte: u32 = 0;
@@ -172,7 +179,7 @@ fn listing(words: &[u32], keys: &[u8]) {
 }
 
 // The tags of one byte in or out, and what the directory then is.
-fn on_all(words: &mut [u32], keys: &mut [u8], op: u32) {
+fn on_all(words: &mut [u32; WORDS], keys: &mut [u8; KEYS], op: u32) {
     let ways = b"in|out";
     text::named(
         b"all 256 one-byte tags $\n",
@@ -183,23 +190,17 @@ fn on_all(words: &mut [u32], keys: &mut [u8], op: u32) {
     listing(words, keys);
 }
 
-fn step(words: &mut [u32], keys: &mut [u8], s: Step) {
-    if s.0 <= steps::SEARCH {
-        on_tag(words, keys, s);
-        return;
+fn step(words: &mut [u32; WORDS], keys: &mut [u8; KEYS], s: Step) {
+    let op = s.0;
+    match op {
+        steps::INSERT | steps::DELETE | steps::SEARCH => on_tag(words, keys, s),
+        steps::CHECK => check(words, keys),
+        steps::START => start(words, keys),
+        _ => on_all(words, keys, op),
     }
-    if s.0 == steps::CHECK {
-        check(words, keys);
-        return;
-    }
-    if s.0 == steps::START {
-        start(words, keys);
-        return;
-    }
-    on_all(words, keys, s.0);
 }
 
-fn run(words: &mut [u32], keys: &mut [u8]) {
+fn run(words: &mut [u32; WORDS], keys: &mut [u8; KEYS]) {
     let mut i = 0;
     while i < steps::COUNT {
         step(words, keys, steps::step_at(i));

@@ -41,17 +41,24 @@ fn note(words: &mut [u32], keys: &mut [u8], tag: &[u8], total: u64) -> Directory
     directory_c::directory_insert(words, keys, &mut scratch, tag, total)
 }
 
-fn put(words: &mut [u32], keys: &mut [u8], tag: &[u8], total: u64, call: &[u8], done: &[u8]) {
+fn put(
+    words: &mut [u32; WORDS],
+    keys: &mut [u8; KEYS],
+    tag: &[u8],
+    total: u64,
+    call: &[u8],
+    done: &[u8],
+) {
     let a = note(words, keys, tag, total);
     text::fill(call, tag, total, 0, 0);
     answer(a.number, done, a.total);
 }
 
-fn insert(words: &mut [u32], keys: &mut [u8], tag: &[u8], total: u64) {
+fn insert(words: &mut [u32; WORDS], keys: &mut [u8; KEYS], tag: &[u8], total: u64) {
     put(words, keys, tag, total, b"insert $ with #: ", b"done\n");
 }
 
-fn set(words: &mut [u32], keys: &mut [u8], tag: &[u8], total: u64) {
+fn set(words: &mut [u32; WORDS], keys: &mut [u8; KEYS], tag: &[u8], total: u64) {
     put(
         words,
         keys,
@@ -62,7 +69,7 @@ fn set(words: &mut [u32], keys: &mut [u8], tag: &[u8], total: u64) {
     );
 }
 
-fn scrap(words: &mut [u32], keys: &mut [u8], tag: &[u8]) {
+fn scrap(words: &mut [u32; WORDS], keys: &mut [u8; KEYS], tag: &[u8]) {
     let mut scratch = [0u8; SCRATCH];
     let a = directory_c::directory_delete(words, keys, &mut scratch, tag);
     text::named(b"scrap $: ", tag);
@@ -82,7 +89,7 @@ fn check(words: &[u32], keys: &[u8]) {
     answer(number, b"the directory is sound\n", 0);
 }
 
-fn start(words: &mut [u32], keys: &mut [u8]) {
+fn start(words: &mut [u32; WORDS], keys: &mut [u8; KEYS]) {
     text::say(b"Lent for 8 tags: 302 words, 512 key bytes, 18 scratch bytes.\nstart: ");
     let number = directory_c::directory_start(words, keys, 8, 2, 0, 0, TAGS);
     answer(number, b"done\n", 0);
@@ -109,13 +116,13 @@ fn row_of(i: u32) -> Row {
     ROWS[k]
 }
 
-fn insert_row(words: &mut [u32], keys: &mut [u8], i: u32) {
+fn insert_row(words: &mut [u32; WORDS], keys: &mut [u8; KEYS], i: u32) {
     let row = row_of(i);
     let tag = row.0;
     insert(words, keys, &tag, row.1);
 }
 
-fn insert_all(words: &mut [u32], keys: &mut [u8]) {
+fn insert_all(words: &mut [u32; WORDS], keys: &mut [u8; KEYS]) {
     let mut i: u32 = 0;
     while i < 9 {
         insert_row(words, keys, i);
@@ -168,20 +175,19 @@ fn station(words: &[u32], keys: &[u8], name: &[u8]) {
     );
 }
 
-// One tag begins held tags. Of the two that are searched one is held.
-fn try_and_read(words: &mut [u32], keys: &mut [u8]) {
-    insert(words, keys, b"L14/P1", 1);
+// Of the two tags one is held.
+fn read(words: &[u32; WORDS], keys: &[u8; KEYS]) {
     search(words, keys, b"L14/P2/FLOW");
     search(words, keys, b"L14/P9/FLOW");
 }
 
-fn set_and_scrap(words: &mut [u32], keys: &mut [u8]) {
+fn set_and_scrap(words: &mut [u32; WORDS], keys: &mut [u8; KEYS]) {
     set(words, keys, b"L14/P2/FLOW", 97355);
     scrap(words, keys, b"L16/P1/FLOW");
     scrap(words, keys, b"L16/P1/FLOW");
 }
 
-fn listing(words: &[u32], keys: &[u8]) {
+fn listing(words: &[u32; WORDS], keys: &[u8; KEYS]) {
     check(words, keys);
     station(words, keys, b"L14/");
     station(words, keys, b"L15/");
@@ -194,7 +200,8 @@ fn main() {
     let mut keys = [0u8; KEYS];
     start(&mut words, &mut keys);
     insert_all(&mut words, &mut keys);
-    try_and_read(&mut words, &mut keys);
+    insert(&mut words, &mut keys, b"L14/P1", 1); // it begins held tags
+    read(&words, &keys);
     set_and_scrap(&mut words, &mut keys);
     listing(&words, &keys);
 }

@@ -15,8 +15,10 @@ use frames::kind;
 use prefix::Prefix;
 use records::representation;
 use records::representation::Entry;
-use steps::Line;
 use steps::Step;
+
+// The room is as long as the longest record.
+const ROOM: usize = 315;
 
 // A child, or that there is none.
 fn say_entry(e: Entry) {
@@ -136,27 +138,18 @@ fn child_at(rec: &[u32], form: Form, kind: u32, byte: u8) -> u32
     representation::lookup_child(form, rec, kind, byte)
 }
 
-// The record after a change, or the answer to a question about it.
+// The answer to a question about a record, or the record after a change.
 fn answer(rec: &[u32], form: Form, kind: u32, s: Step)
     requires { ⌜ InnerFits form kind (now rec) ⌝ }
 {
-    if s.op <= steps::MOVE {
-        say_record(rec, form, kind);
-        return;
+    let op = s.op;
+    match op {
+        steps::LOOKUP => say_reference(child_at(rec, form, kind, s.byte)),
+        steps::LOWEST => say_entry(representation::nth_child(form, rec, kind, 0)),
+        steps::HIGHEST => say_entry(representation::last_child(form, rec, kind)),
+        steps::FROM => say_entry(representation::child_from(form, rec, kind, s.byte as usize)),
+        _ => say_record(rec, form, kind),
     }
-    if s.op == steps::LOOKUP {
-        say_reference(child_at(rec, form, kind, s.byte));
-        return;
-    }
-    if s.op == steps::LOWEST {
-        say_entry(representation::nth_child(form, rec, kind, 0));
-        return;
-    }
-    if s.op == steps::HIGHEST {
-        say_entry(representation::last_child(form, rec, kind));
-        return;
-    }
-    say_entry(representation::child_from(form, rec, kind, s.byte as usize));
 }
 
 // A record of this kind with this prefix and these children, at the front of a cleared room; false where they do not fit.
@@ -209,11 +202,12 @@ fn moved(room: &mut [u32], to: u32) -> bool {
     if room.len() < e {
         return false;
     }
-    if !representation::inner_ok(form, &room[0..e], kind) {
+    let rec = &room[0..e];
+    if !representation::inner_ok(form, rec, kind) {
         return false;
     }
-    let p = records::header::prefix_at(form, &room[0..e]);
-    let places = edit::spread_of(form, &room[0..e], kind);
+    let p = records::header::prefix_at(form, rec);
+    let places = edit::spread_of(form, rec, kind);
     lay(room, form, to, p, places)
 }
 
@@ -266,19 +260,18 @@ fn remove(rec: &mut [u32], form: Form, kind: u32, byte: u8) -> bool
 
 // Another prefix: so many times the byte.
 fn set_run(rec: &mut [u32], form: Form, byte: u8, n: u32) -> bool {
-    let run = [byte; 64];
     if 64 < n {
         return false;
     }
-    let k = n as usize;
-    let p = prefix::header::prefix_of(&run[0..k]);
-    let h = form::header_of(form);
     if form.prefix != 8 {
         return false;
     }
-    if rec.len() < h {
+    if rec.len() < form::header_of(form) {
         return false;
     }
+    let run = [byte; 64];
+    let k = n as usize;
+    let p = prefix::header::prefix_of(&run[0..k]);
     edits::header::set_prefix(rec, form, p);
     true
 }
@@ -287,16 +280,13 @@ fn set_run(rec: &mut [u32], form: Form, byte: u8, n: u32) -> bool {
 fn change(rec: &mut [u32], form: Form, kind: u32, s: Step) -> bool
     requires { ⌜ InnerFits form kind (now rec) ⌝ }
 {
-    if s.op == steps::ADD {
-        return add(rec, form, kind, s.byte, s.reference);
+    let op = s.op;
+    match op {
+        steps::ADD => add(rec, form, kind, s.byte, s.reference),
+        steps::REPLACE => replace(rec, form, kind, s.byte, s.reference),
+        steps::REMOVE => remove(rec, form, kind, s.byte),
+        _ => set_run(rec, form, s.byte, s.number),
     }
-    if s.op == steps::REPLACE {
-        return replace(rec, form, kind, s.byte, s.reference);
-    }
-    if s.op == steps::REMOVE {
-        return remove(rec, form, kind, s.byte);
-    }
-    set_run(rec, form, s.byte, s.number)
 }
 
 // One change of the record in the room, or what is said of it; false where there is none, or the change is refused.
@@ -310,14 +300,15 @@ fn on_record(room: &mut [u32], s: Step, changing: bool) -> bool {
     if room.len() < e {
         return false;
     }
-    if !representation::inner_ok(form, &room[0..e], kind) {
+    let rec = &room[0..e];
+    if !representation::inner_ok(form, rec, kind) {
         return false;
     }
-    if changing {
-        return change(&mut room[0..e], form, kind, s);
+    if !changing {
+        answer(rec, form, kind, s);
+        return true;
     }
-    answer(&room[0..e], form, kind, s);
-    true
+    change(&mut room[0..e], form, kind, s)
 }
 
 // The step for the next byte, with the next reference of the same kind.
@@ -333,7 +324,7 @@ fn next(s: Step) -> Step {
 }
 
 // So many changes for the bytes in a row; stops at one that is refused.
-fn changes(room: &mut [u32], first: Step) -> bool {
+fn changes(room: &mut [u32; ROOM], first: Step) -> bool {
     let mut s = first;
     let mut left = first.number;
     while 0 < left {
@@ -347,27 +338,22 @@ fn changes(room: &mut [u32], first: Step) -> bool {
 }
 
 // What a step does to the room; false where it is refused.
-fn run(room: &mut [u32], s: Step) -> bool {
-    if s.op == steps::NEW {
-        return branching(room, s);
+fn run(room: &mut [u32; ROOM], s: Step) -> bool {
+    let op = s.op;
+    match op {
+        steps::NEW => branching(room, s),
+        steps::MOVE => moved(room, s.number),
+        steps::PREFIX => on_record(room, s, true),
+        steps::ADD | steps::REPLACE | steps::REMOVE => changes(room, s),
+        _ => true,
     }
-    if s.op == steps::MOVE {
-        return moved(room, s.number);
-    }
-    if s.op == steps::PREFIX {
-        return on_record(room, s, true);
-    }
-    if steps::MOVE < s.op {
-        return true;
-    }
-    changes(room, s)
 }
 
 // A step as it is asked, by its place in the list of all; 104:5 is the child that stood there before.
 fn say_step(s: Step) {
     let forms =
         b"new kind # of 104:5 and #:#|add #:#|replace #:#|remove #|prefix of #|move to kind #|lookup #|lowest|highest|at or after #";
-    let form = text::read::word(forms, s.op, b'|');
+    let form = text::read::word(forms, s.op / steps::APART, b'|');
     let byte = s.byte as u64;
     let reference = s.reference as u64;
     if (s.op == steps::NEW) | (s.op == steps::MOVE) {
@@ -381,7 +367,7 @@ fn say_step(s: Step) {
 }
 
 // A step's line.
-fn show(room: &mut [u32], s: Step) {
+fn show(room: &mut [u32; ROOM], s: Step) {
     say_step(s);
     if !run(room, s) {
         text::say(b" -> refused\n");
@@ -391,22 +377,11 @@ fn show(room: &mut [u32], s: Step) {
     text::say(b"\n");
 }
 
-fn step_of(line: Line) -> Step {
-    Step {
-        op: line.0,
-        number: line.1,
-        byte: line.2,
-        reference: line.3,
-    }
-}
-
-// The room is as long as the longest record.
 fn main() {
-    let mut room = [0u32; 315];
+    let mut room = [0u32; ROOM];
     let mut i = 0;
     while i < steps::COUNT {
-        let line = steps::line_at(i);
-        show(&mut room, step_of(line));
+        show(&mut room, steps::step_at(i));
         i += 1;
     }
 }

@@ -1,26 +1,28 @@
 // The steps that the program runs.
 ghost use Prim.Native.Nat.{_<_};
 
-// What a step does: changes first, then questions.
-pub const NEW: u32 = 0; // a new branching of this kind: the child that stood there before, and the step's
+// What a step does: changes first, then questions; from each to the next it is so much.
+pub const APART: u32 = 1_00_000_000;
 
-pub const ADD: u32 = 1; // so many children for the bytes from this one on, their references in a row too
+pub const NEW: u32 = 0_00_000_000; // a new branching of this kind: the child that stood there before, and the step's
 
-pub const REPLACE: u32 = 2; // another reference for each of so many
+pub const ADD: u32 = 1_00_000_000; // so many children for the bytes from this one on, their references in a row too
 
-pub const REMOVE: u32 = 3; // so many taken out
+pub const REPLACE: u32 = 2_00_000_000; // another reference for each of so many
 
-pub const PREFIX: u32 = 4; // another prefix: so many times this byte
+pub const REMOVE: u32 = 3_00_000_000; // so many taken out
 
-pub const MOVE: u32 = 5; // the record moved into this kind
+pub const PREFIX: u32 = 4_00_000_000; // another prefix: so many times this byte
 
-pub const LOOKUP: u32 = 6; // asks for the reference for the byte
+pub const MOVE: u32 = 5_00_000_000; // the record moved into this kind
 
-pub const LOWEST: u32 = 7;
+pub const LOOKUP: u32 = 6_00_000_000; // asks for the reference for the byte
 
-pub const HIGHEST: u32 = 8;
+pub const LOWEST: u32 = 7_00_000_000;
 
-pub const FROM: u32 = 9; // asks for the first child at or after the byte
+pub const HIGHEST: u32 = 8_00_000_000;
+
+pub const FROM: u32 = 9_00_000_000; // asks for the first child at or after the byte
 
 // The child that stood there before a new branching.
 pub const OLD_BYTE: u8 = 104;
@@ -35,149 +37,112 @@ pub struct Step {
     pub reference: u32,
 }
 
-// A step as it is stored: the four in this order.
-pub struct Line(pub u32, pub u32, pub u8, pub u32);
-
-// The steps. What it costs to check a table grows faster than its length, so there is a table for each part.
-const SORTED: [Line; 31] = [
-    // kind 1: bytes ascending, four at most
-    Line(NEW, 1, 97, 13),
-    Line(ADD, 1, 255, 21),
-    Line(ADD, 1, 100, 29),
-    Line(ADD, 1, 0, 37),
-    Line(ADD, 1, 97, 37),
-    Line(REPLACE, 1, 104, 45),
-    Line(REPLACE, 1, 105, 45),
-    Line(LOOKUP, 0, 104, 0),
-    Line(LOOKUP, 0, 105, 0),
-    Line(LOWEST, 0, 0, 0),
-    Line(HIGHEST, 0, 0, 0),
-    Line(FROM, 0, 98, 0),
-    Line(FROM, 0, 255, 0),
-    Line(REMOVE, 1, 255, 0),
-    Line(REMOVE, 1, 255, 0),
-    Line(FROM, 0, 105, 0),
-    Line(PREFIX, 10, 120, 0),
-    Line(PREFIX, 2, 121, 0),
-    // kind 1 into kind 2, which takes sixteen
-    Line(ADD, 1, 200, 53),
-    Line(MOVE, 2, 0, 0),
-    Line(ADD, 12, 0, 101),
-    Line(ADD, 1, 50, 61),
-    Line(REPLACE, 1, 0, 69),
-    Line(REMOVE, 1, 97, 0),
-    Line(ADD, 1, 50, 77),
-    Line(LOOKUP, 0, 50, 0),
-    Line(LOWEST, 0, 0, 0),
-    Line(HIGHEST, 0, 0, 0),
-    Line(FROM, 0, 12, 0),
-    Line(FROM, 0, 201, 0),
-    Line(MOVE, 1, 0, 0),
-];
-
-const SLOTTED: [Line; 18] = [
-    // kind 2 into kind 3: slots in byte order, then the new child
-    Line(MOVE, 3, 0, 0),
-    Line(ADD, 1, 12, 85),
-    // kind 3: the lowest unused slot, and a hole where a child was
-    Line(NEW, 3, 30, 13),
-    Line(ADD, 1, 7, 21),
-    Line(REMOVE, 1, 30, 0),
-    Line(ADD, 1, 150, 29),
-    Line(ADD, 1, 200, 37),
-    Line(REPLACE, 1, 104, 45),
-    Line(PREFIX, 9, 65, 0),
-    Line(LOOKUP, 0, 150, 0),
-    Line(LOOKUP, 0, 30, 0),
-    Line(LOWEST, 0, 0, 0),
-    Line(HIGHEST, 0, 0, 0),
-    Line(FROM, 0, 8, 0),
-    Line(FROM, 0, 201, 0),
-    Line(ADD, 44, 40, 101),
-    Line(ADD, 1, 0, 53),
-    Line(MOVE, 2, 0, 0),
-];
-
-const PLACED: [Line; 20] = [
-    // kind 3 into kind 4, by place
-    Line(MOVE, 4, 0, 0),
-    Line(ADD, 1, 0, 53),
-    Line(REPLACE, 1, 0, 61),
-    Line(LOOKUP, 0, 0, 0),
-    Line(LOOKUP, 0, 1, 0),
-    Line(LOWEST, 0, 0, 0),
-    Line(HIGHEST, 0, 0, 0),
-    Line(FROM, 0, 84, 0),
-    Line(MOVE, 3, 0, 0),
-    // and back: 4 into 3, 3 into 2, 2 into 1
-    Line(REMOVE, 1, 7, 0),
-    Line(MOVE, 3, 0, 0),
-    Line(REMOVE, 32, 40, 0),
-    Line(ADD, 1, 41, 109),
-    Line(REMOVE, 1, 41, 0),
-    Line(MOVE, 2, 0, 0),
-    Line(REMOVE, 12, 72, 0),
-    Line(MOVE, 1, 0, 0),
-    Line(REMOVE, 1, 150, 0),
-    Line(REMOVE, 1, 0, 0),
-    Line(REMOVE, 1, 200, 0),
-];
-
-const ANEW: [Line; 12] = [
-    // kind 1 into kind 3
-    Line(NEW, 1, 109, 13),
-    Line(ADD, 2, 1, 21),
-    Line(MOVE, 3, 0, 0),
-    Line(ADD, 1, 0, 37),
-    // kind 2 and kind 4 made new
-    Line(NEW, 2, 200, 13),
-    Line(REMOVE, 1, 200, 0),
-    Line(NEW, 4, 255, 13),
-    Line(ADD, 1, 0, 21),
-    Line(REMOVE, 1, 104, 0),
-    Line(LOWEST, 0, 0, 0),
-    Line(HIGHEST, 0, 0, 0),
-    Line(FROM, 0, 1, 0),
-];
-
-fn sorted(i: usize) -> Line
-    requires { ⌜ i < 31 ⌝ }
-{
-    SORTED[i]
-}
-
-fn slotted(i: usize) -> Line
-    requires { ⌜ i < 18 ⌝ }
-{
-    SLOTTED[i]
-}
-
-fn placed(i: usize) -> Line
-    requires { ⌜ i < 20 ⌝ }
-{
-    PLACED[i]
-}
-
-fn anew(i: usize) -> Line
-    requires { ⌜ i < 12 ⌝ }
-{
-    ANEW[i]
-}
-
-// How many steps there are, and the step of this number.
 pub const COUNT: usize = 81;
 
-pub fn line_at(i: usize) -> Line
+// Each step is stored as one decimal number: what it does, two digits for the number, three for the byte, three for the reference. A table of structs would cost
+// the check ten times as much.
+
+const STEPS: [u32; 81] = [
+    // kind 1: bytes ascending, four at most
+    NEW + 1_097_013,
+    ADD + 1_255_021,
+    ADD + 1_100_029,
+    ADD + 1_000_037,
+    ADD + 1_097_037,
+    REPLACE + 1_104_045,
+    REPLACE + 1_105_045,
+    LOOKUP + 104_000,
+    LOOKUP + 105_000,
+    LOWEST,
+    HIGHEST,
+    FROM + 98_000,
+    FROM + 255_000,
+    REMOVE + 1_255_000,
+    REMOVE + 1_255_000,
+    FROM + 105_000,
+    PREFIX + 10_120_000,
+    PREFIX + 2_121_000,
+    // kind 1 into kind 2, which takes sixteen
+    ADD + 1_200_053,
+    MOVE + 2_000_000,
+    ADD + 12_000_101,
+    ADD + 1_050_061,
+    REPLACE + 1_000_069,
+    REMOVE + 1_097_000,
+    ADD + 1_050_077,
+    LOOKUP + 50_000,
+    LOWEST,
+    HIGHEST,
+    FROM + 12_000,
+    FROM + 201_000,
+    MOVE + 1_000_000,
+    // kind 2 into kind 3: slots in byte order, then the new child
+    MOVE + 3_000_000,
+    ADD + 1_012_085,
+    // kind 3: the lowest unused slot, and a hole where a child was
+    NEW + 3_030_013,
+    ADD + 1_007_021,
+    REMOVE + 1_030_000,
+    ADD + 1_150_029,
+    ADD + 1_200_037,
+    REPLACE + 1_104_045,
+    PREFIX + 9_065_000,
+    LOOKUP + 150_000,
+    LOOKUP + 30_000,
+    LOWEST,
+    HIGHEST,
+    FROM + 8_000,
+    FROM + 201_000,
+    ADD + 44_040_101,
+    ADD + 1_000_053,
+    MOVE + 2_000_000,
+    // kind 3 into kind 4, by place
+    MOVE + 4_000_000,
+    ADD + 1_000_053,
+    REPLACE + 1_000_061,
+    LOOKUP + 0,
+    LOOKUP + 1_000,
+    LOWEST,
+    HIGHEST,
+    FROM + 84_000,
+    MOVE + 3_000_000,
+    // and back: 4 into 3, 3 into 2, 2 into 1
+    REMOVE + 1_007_000,
+    MOVE + 3_000_000,
+    REMOVE + 32_040_000,
+    ADD + 1_041_109,
+    REMOVE + 1_041_000,
+    MOVE + 2_000_000,
+    REMOVE + 12_072_000,
+    MOVE + 1_000_000,
+    REMOVE + 1_150_000,
+    REMOVE + 1_000_000,
+    REMOVE + 1_200_000,
+    // kind 1 into kind 3
+    NEW + 1_109_013,
+    ADD + 2_001_021,
+    MOVE + 3_000_000,
+    ADD + 1_000_037,
+    // kind 2 and kind 4 made new
+    NEW + 2_200_013,
+    REMOVE + 1_200_000,
+    NEW + 4_255_013,
+    ADD + 1_000_021,
+    REMOVE + 1_104_000,
+    LOWEST,
+    HIGHEST,
+    FROM + 1_000,
+];
+
+// The step of this place in the list.
+pub fn step_at(i: usize) -> Step
     requires { ⌜ i < 81 ⌝ }
 {
-    if i < 31 {
-        return sorted(i);
+    let n = STEPS[i];
+    Step {
+        op: n - n % APART,
+        number: n / 1_000_000 % 100,
+        byte: (n / 1_000 % 1_000 % 256) as u8,
+        reference: n % 1_000,
     }
-    if i < 49 {
-        return slotted(i - 31);
-    }
-    if i < 69 {
-        return placed(i - 49);
-    }
-    anew(i - 69)
 }

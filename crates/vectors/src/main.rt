@@ -19,19 +19,19 @@ const KEYS: usize = 16384;
 const SCRATCH: usize = 597;
 
 // An empty directory.
-fn start(words: &mut [u32], keys: &mut [u8]) -> u32 {
+fn start(words: &mut [u32; WORDS], keys: &mut [u8; KEYS]) -> u32 {
     directory_c::directory_start(words, keys, 256, 64, 16, 5, TAGS)
 }
 
 // Scratch is lent for one call, so each that wants it has its own.
-fn insert(words: &mut [u32], keys: &mut [u8], tag: &[u8], total: u64) {
+fn insert(words: &mut [u32; WORDS], keys: &mut [u8; KEYS], tag: &[u8], total: u64) {
     let mut scratch = [0u8; SCRATCH];
     let before = draw::trailer(words, frame::TAGS);
     let a = directory_c::directory_insert(words, keys, &mut scratch, tag, total);
     say::inserted(a, before, draw::trailer(words, frame::TAGS));
 }
 
-fn delete(words: &mut [u32], keys: &mut [u8], tag: &[u8]) {
+fn delete(words: &mut [u32; WORDS], keys: &mut [u8; KEYS], tag: &[u8]) {
     let mut scratch = [0u8; SCRATCH];
     say::deleted(directory_c::directory_delete(words, keys, &mut scratch, tag));
 }
@@ -63,23 +63,16 @@ fn next(words: &[u32], keys: &[u8], tag: &[u8]) {
 
 // A question about a tag.
 fn ask(words: &[u32], keys: &[u8], tag: &[u8], name: u32) {
-    if name == line::AFTER {
-        at_or_after(words, keys, tag);
-        return;
-    }
-    if name == line::PREFIX {
-        say::found(
+    match name {
+        line::AFTER => at_or_after(words, keys, tag),
+        line::PREFIX => say::found(
             words,
             keys,
             directory_c::directory_prefix_search(words, keys, tag),
-        );
-        return;
+        ),
+        line::NEXT => next(words, keys, tag),
+        _ => say::found(words, keys, directory_c::directory_search(words, keys, tag)),
     }
-    if name == line::NEXT {
-        next(words, keys, tag);
-        return;
-    }
-    say::found(words, keys, directory_c::directory_search(words, keys, tag));
 }
 
 // How many leaves the list has from the minimum on, up to as many as there are.
@@ -110,19 +103,12 @@ fn list(words: &[u32], keys: &[u8]) {
 
 // The ends, the list and the tag count.
 fn tell(words: &[u32], keys: &[u8], name: u32) {
-    if name == line::MINIMUM {
-        say::found(words, keys, directory_c::directory_minimum(words, keys));
-        return;
+    match name {
+        line::MINIMUM => say::found(words, keys, directory_c::directory_minimum(words, keys)),
+        line::MAXIMUM => say::found(words, keys, directory_c::directory_maximum(words, keys)),
+        line::LIST => list(words, keys),
+        _ => text::number(draw::trailer(words, frame::TAGS) as u64),
     }
-    if name == line::MAXIMUM {
-        say::found(words, keys, directory_c::directory_maximum(words, keys));
-        return;
-    }
-    if name == line::LIST {
-        list(words, keys);
-        return;
-    }
-    text::number(draw::trailer(words, frame::TAGS) as u64);
 }
 
 // The calls that look at the whole block; one that is not sound is not drawn.
@@ -152,24 +138,18 @@ fn read(words: &[u32], keys: &[u8], tag: &[u8], name: u32) {
     tell(words, keys, name);
 }
 
-fn answer(words: &mut [u32], keys: &mut [u8], tag: &[u8], c: Command) {
-    if c.name == line::RESET {
-        text::number(start(words, keys) as u64);
-        return;
+fn answer(words: &mut [u32; WORDS], keys: &mut [u8; KEYS], tag: &[u8], c: Command) {
+    let name = c.name;
+    match name {
+        line::RESET => text::number(start(words, keys) as u64),
+        line::INSERT => insert(words, keys, tag, c.total),
+        line::DELETE => delete(words, keys, tag),
+        _ => read(words, keys, tag, name),
     }
-    if c.name == line::INSERT {
-        insert(words, keys, tag, c.total);
-        return;
-    }
-    if c.name == line::DELETE {
-        delete(words, keys, tag);
-        return;
-    }
-    read(words, keys, tag, c.name);
 }
 
 // One line answered.
-fn turn(words: &mut [u32], keys: &mut [u8], asked: &[u8]) {
+fn turn(words: &mut [u32; WORDS], keys: &mut [u8; KEYS], asked: &[u8]) {
     let mut space = [0u8; 128];
     let c = line::taken(&mut space, asked);
     if c.name == line::NOTHING {
@@ -181,7 +161,7 @@ fn turn(words: &mut [u32], keys: &mut [u8], asked: &[u8]) {
 }
 
 // The lines of the input, which are no more than its bytes.
-fn run(words: &mut [u32], keys: &mut [u8], input: &[u8]) {
+fn run(words: &mut [u32; WORDS], keys: &mut [u8; KEYS], input: &[u8]) {
     let mut i: u32 = 0;
     while i < 65536 {
         let asked = text::read::word(input, i, b'\n');

@@ -1,13 +1,11 @@
--- `run` ends: each turn takes the next of 27 steps, and the lent memory keeps its lengths.
+-- `run` ends: each turn takes the next of 27 steps.
 use borrow.Author.Needs.{needs}
-use lib.ListN.{length}
-use mathlib.Core.Path.{_≡_}
 use Prim.Native.Nat.{_≤_, _-_}
 use Rattle.bench_sheet.proofs.run.Statement.{statement}
 use Rattle.bench_sheet.proofs.run.Tie as tie
 
 abbrev Inv-loop : tie.InvT-loop
-Inv-loop words₀ keys₀ i₀ words keys i = (length words ≡ length words₀) × ((length keys ≡ length keys₀) × (i ≤ 27))
+Inv-loop words₀ keys₀ i₀ words keys i = i ≤ 27
 
 abbrev μ-loop : tie.MeasureT-loop
 μ-loop words₀ keys₀ i₀ words keys i = 27 - i
@@ -21,8 +19,6 @@ run-spec =
     (λ c. search needs)
     (λ c κs. search needs)
     (λ c κs. search needs)
-    (λ c. search needs)
-    (λ c. search needs)
     (λ c. search needs)
     (λ c. search needs)
     (λ c. search needs)

@@ -1,13 +1,11 @@
--- `insert_all` ends: each turn puts in the next of nine rows, and the lent memory keeps its lengths.
+-- `insert_all` ends: each turn puts in the next of nine rows.
 use borrow.Author.Needs.{needs}
-use lib.ListN.{length}
-use mathlib.Core.Path.{_≡_}
 use Prim.Native.Nat.{_≤_, _-_}
 use Rattle.plant.proofs.insert_all.Statement.{statement}
 use Rattle.plant.proofs.insert_all.Tie as tie
 
 abbrev Inv-loop : tie.InvT-loop
-Inv-loop words₀ keys₀ i₀ words keys i = (length words ≡ length words₀) × ((length keys ≡ length keys₀) × (i ≤ 9))
+Inv-loop words₀ keys₀ i₀ words keys i = i ≤ 9
 
 abbrev μ-loop : tie.MeasureT-loop
 μ-loop words₀ keys₀ i₀ words keys i = 9 - i
@@ -20,8 +18,6 @@ insert-all-spec =
     μ-loop
     (λ c. search needs)
     (λ c κs. search needs)
-    (λ c. search needs)
-    (λ c. search needs)
     (λ c. search needs)
     (λ c. search needs)
     (λ c. search needs)

@@ -1,12 +1,10 @@
--- `changes` is safe: each turn leaves one change fewer, and the room keeps its length.
+-- `changes` is safe: each turn leaves one change fewer.
 use borrow.Author.Needs.{needs}
-use lib.ListN.{length}
-use mathlib.Core.Path.{_≡_}
 use Rattle.rows.proofs.changes.Statement.{statement}
 use Rattle.rows.proofs.changes.Tie as tie
 
 abbrev Inv-loop : tie.InvT-loop
-Inv-loop room₀ s₀ left₀ room s left = length room ≡ length room₀
+Inv-loop room₀ s₀ left₀ room s left = Unit {0}
 
 abbrev μ-loop : tie.MeasureT-loop
 μ-loop room₀ s₀ left₀ room s left = left
@@ -20,9 +18,7 @@ changes-spec =
     (λ c. search needs)
     (λ c κs. search needs)
     (λ c. search needs)
-    (λ c. search needs)
     (λ c κs. search needs)
-    (λ c. search needs)
     (λ c. search needs)
     (λ c. search needs)
     (λ c. search needs)

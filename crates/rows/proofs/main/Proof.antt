@@ -1,13 +1,11 @@
--- `main` is safe: each turn leaves one step fewer, and the room keeps its length.
+-- `main` is safe: each turn leaves one step fewer.
 use borrow.Author.Needs.{needs}
-use lib.ListN.{length}
-use mathlib.Core.Path.{_≡_}
 use Prim.Native.Nat.{_-_}
 use Rattle.rows.proofs.main.Statement.{statement}
 use Rattle.rows.proofs.main.Tie as tie
 
 abbrev Inv-loop : tie.InvT-loop
-Inv-loop room₀ i₀ room i = length room ≡ 315
+Inv-loop room₀ i₀ room i = Unit {0}
 
 abbrev μ-loop : tie.MeasureT-loop
 μ-loop room₀ i₀ room i = 81 - i
@@ -18,8 +16,6 @@ main-spec =
     (tie.spec
     Inv-loop
     μ-loop
-    (λ c. search needs)
-    (λ c κs. search needs)
     (λ c. search needs)
     (λ c κs. search needs)
     (λ c κs. search needs)

@@ -6,7 +6,9 @@ use Rattle.rows.proofs.moved.Statement.{statement}
 use Rattle.rows.proofs.moved.Tie as tie
 
 spread-of-requires : tie.Need-spread-of-requires
-spread-of-requires c κs = record { low = search needs; high = search needs; long = search needs; ok = sym (c .before .before .before .before .before .before .inner-ok .ensures) ∙ not-false _ (c .before .before .before .before .before .if3 .left) }
+spread-of-requires c κs =
+    let tested = c .before in
+    record { low = search needs; high = search needs; long = search needs; ok = sym (tested .before .inner-ok .ensures) ∙ not-false _ (tested .if3 .left) }
 
 pub moved-spec : {M : Type 1} → statement M
 moved-spec =
@@ -25,13 +27,7 @@ moved-spec =
     (λ c κs. search needs)
     (λ c. search needs)
     (λ c. search needs)
-    (λ c. search needs)
-    (λ c. search needs)
-    (λ c. search needs)
     (λ c κs. search needs)
-    (λ c. search needs)
-    (λ c. search needs)
-    (λ c. search needs)
     spread-of-requires
     (λ c κs. search needs)
     (λ c. search needs)

@@ -6,7 +6,7 @@ use Rattle.rows.proofs.set_run.Statement.{statement}
 use Rattle.rows.proofs.set_run.Tie as tie
 
 set-prefix-requires : tie.Need-set-prefix-requires
-set-prefix-requires c κs = (inl (search needs), (omega (arith, c .before .before .before .before .header-of .ensures .0), search needs))
+set-prefix-requires c κs = (inl (search needs), (omega (arith, c .before .before .before .before .before .header-of .ensures .0), search needs))
 
 pub set-run-spec : {M : Type 1} → statement M
 set-run-spec =
@@ -14,12 +14,12 @@ set-run-spec =
     (tie.spec
     (λ c. search needs)
     (λ c. search needs)
-    (λ c. search needs)
-    (λ c. search needs)
-    (λ c κs. search needs)
     (λ c κs. search needs)
     (λ c. search needs)
     (λ c. search needs)
+    (λ c. search needs)
+    (λ c. search needs)
+    (λ c κs. search needs)
     set-prefix-requires
     (λ c. search needs)
     (λ c. search needs))

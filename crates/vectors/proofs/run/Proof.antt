@@ -1,13 +1,11 @@
--- `run` ends: each turn takes the next line, and the lent memory keeps its lengths.
+-- `run` ends: each turn takes the next line.
 use borrow.Author.Needs.{needs}
-use lib.ListN.{length}
-use mathlib.Core.Path.{_≡_}
 use Prim.Native.Nat.{_≤_, _-_}
 use Rattle.vectors.proofs.run.Statement.{statement}
 use Rattle.vectors.proofs.run.Tie as tie
 
 abbrev Inv-loop : tie.InvT-loop
-Inv-loop words₀ keys₀ input i₀ words keys i = (length words ≡ length words₀) × ((length keys ≡ length keys₀) × (i ≤ 65536))
+Inv-loop words₀ keys₀ input i₀ words keys i = i ≤ 65536
 
 abbrev μ-loop : tie.MeasureT-loop
 μ-loop words₀ keys₀ input i₀ words keys i = 65536 - i
@@ -21,11 +19,7 @@ run-spec =
     (λ c. search needs)
     (λ c κs. search needs)
     (λ c. search needs)
-    (λ c. search needs)
-    (λ c. search needs)
     (λ c κs. search needs)
-    (λ c. search needs)
-    (λ c. search needs)
     (λ c. search needs)
     (λ c. search needs)
     (λ c. search needs)
