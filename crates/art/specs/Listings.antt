@@ -2,7 +2,7 @@
 use mathlib.Core.Logic.{_⊎_, ite}
 use mathlib.Core.Option.{Option, none, some}
 use mathlib.Core.List.{[], _∷_, _++_}
-use Prim.Native.Nat.{ℕ}
+use Prim.Native.Nat.{ℕ, _+_}
 use lib.ListN.{drop}
 use Rattle.art.specs.Tags.{Tag, Listing, Before, Begins, Aim, tag-dec, begins-dec, fits-dec}
 use Rattle.art.specs.Members.{In}
@@ -47,3 +47,14 @@ module _ {A : Type 0} where
   -- a held tag begins with the bytes, or they begin with it; one that is equal to them does both
   abbrev pub Clashes : Tag → Listing A → Type 0
   Clashes s l = (e : Tag × A) × In e l × (Begins s (e .0) ⊎ Begins (e .0) s)
+
+  -- ── the tags that begin with given bytes ──
+  -- those entries, in the listing's order
+  abbrev pub begun-with : Tag → Listing A → Listing A
+  begun-with s [] = []
+  begun-with s (e ∷ l) = ite (begins-dec s (e .0)) (e ∷ begun-with s l) (begun-with s l)
+
+-- what a listing of numbers adds up to
+abbrev pub added-up : Listing ℕ → ℕ
+added-up [] = 0
+added-up (e ∷ l) = e .1 + added-up l

@@ -18,7 +18,8 @@ use Rattle.art.specs.Calls.{OnceOf}
 use Rattle.art.proofs.ReadBack.{shown-once}
 use Rattle.whole.specs.Sound.{Rooted, Sound}
 use Rattle.demands.specs.Calls.{Edit, insert, delete, edit, run}
-use Rattle.demands.specs.Histories.{Block, lent, totals, tagOf}
+use Rattle.reading.specs.Listing.{totals}
+use Rattle.demands.specs.Histories.{Block, lent, tagOf}
 use Rattle.demands.specs.Drawn.{drawingOf}
 use Rattle.demands.specs.Listed.{holds}
 use Rattle.demands.specs.Ledger.{Ledger, gives}

@@ -26,7 +26,7 @@ use Rattle.reading.proofs.Entries.{few-inner}
 use Rattle.whole.specs.Sound.{Rooted, Sound}
 use Rattle.whole.proofs.Sounds.{used-pool}
 use Rattle.pointed.proofs.Sounds.{sound-shown}
-use Rattle.demands.specs.Histories.{totals}
+use Rattle.reading.specs.Listing.{totals}
 use Rattle.demands.specs.Drawn.{kidsDrawn, cellDrawn, drawnFrom, drawingOf}
 use Rattle.demands.proofs.Totals.{plain, plain-row, plain-contents, plain-good}
 

@@ -35,7 +35,8 @@ use Rattle.delete.specs.declared.plan.Cut.{Cut}
 use Rattle.delete.specs.declared.plan.Plan.the-variants as gone
 use Rattle.demands.specs.Calls.{Edit, insert, delete, edit, Slices, run}
 use Rattle.demands.specs.Told.{number}
-use Rattle.demands.specs.Histories.{totals, tagOf}
+use Rattle.reading.specs.Listing.{totals}
+use Rattle.demands.specs.Histories.{tagOf}
 use Rattle.demands.specs.Listed.{holds}
 use Rattle.demands.specs.Ledger.{Ledger, without, gives, given, accepted}
 use Rattle.demands.proofs.Changes.{insert-sound, insert-frame, over-held, over-sound, over-frame, delete-held, delete-sound, delete-frame}

@@ -14,7 +14,8 @@ use Rattle.pools.specs.declared.start.Started.the-variants as started
 use Rattle.reading.specs.Answers.{Bytes}
 use Rattle.whole.specs.Sound.{Sound}
 use Rattle.demands.specs.Calls.{Call, start, query, ask, edit, run}
-use Rattle.demands.specs.Histories.{Block, lent, Turn, after-all, CallBytes, AllBytes, totals}
+use Rattle.reading.specs.Listing.{totals}
+use Rattle.demands.specs.Histories.{Block, lent, Turn, after-all, CallBytes, AllBytes}
 use Rattle.demands.specs.Listed.{holds}
 use Rattle.demands.specs.Story.{Story}
 use Rattle.demands.specs.Ledger.{Ledger, ledger, accepted}

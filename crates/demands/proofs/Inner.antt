@@ -27,7 +27,7 @@ use Rattle.art.proofs.Facts.{used-inner}
 use Rattle.view.proofs.Views.{cell-free, cell-used}
 use Rattle.whole.specs.Sound.{Sound}
 use Rattle.whole.proofs.Sounds.{used-pool}
-use Rattle.demands.specs.Histories.{totals}
+use Rattle.reading.specs.Listing.{totals}
 use Rattle.demands.specs.Drawn.{usedBelow, usedInner}
 use Rattle.demands.proofs.Sums.{sum, four, heft, row-heft, sum-same, four-empty, heft-four}
 use Rattle.demands.proofs.Totals.{plain, plain-contents, plain-good, plain-forks}

@@ -14,7 +14,8 @@ use Rattle.reading.specs.Answers.{Bytes, answerOf}
 use Rattle.whole.specs.Sound.{Sound}
 use Rattle.demands.specs.Calls.{query, search, found, Edit, edit, insert, delete, run}
 use Rattle.demands.specs.Told.{Told, only, toldBy}
-use Rattle.demands.specs.Histories.{Block, lent, tagOf, totals}
+use Rattle.reading.specs.Listing.{totals}
+use Rattle.demands.specs.Histories.{Block, lent, tagOf}
 use Rattle.demands.specs.Listed.{holds, finds}
 use Rattle.demands.specs.Programs.{Program, seen, tells, nextBy, AcceptedBy}
 use Rattle.demands.specs.Demands.{OnSound}

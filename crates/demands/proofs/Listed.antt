@@ -6,12 +6,13 @@ use mathlib.Core.Option.{Option, none, some}
 use mathlib.Core.Bool.{not}
 use Rattle.records.specs.View.{Held}
 use Rattle.art.specs.Tags.{Tag}
-use Rattle.art.specs.Listings.{lookup, lookup-begun}
+use Rattle.art.specs.Listings.{lookup, lookup-begun, begun-with}
 use Rattle.art.specs.Orders.{first-of, last-of, after}
 use Rattle.tree.specs.declared.answer.Found.{Found}
 use Rattle.tree.specs.declared.answer.Facts.{Facts}
 use Rattle.leaves.specs.Leaf.{nextLeafOf, factsOf, tagOf}
 use Rattle.reading.specs.Answers.{answerOf}
+use Rattle.reading.specs.Listing.{totals}
 use Rattle.whole.specs.Sound.{Sound}
 use Rattle.whole.specs.Check.{checkOf}
 use Rattle.whole.specs.declared.check.Checked.{Checked}
@@ -20,6 +21,10 @@ use Rattle.pointed.proofs.Sounds.{sound-shown}
 use Rattle.insert.proofs.Afters.{after-shown}
 use Rattle.range.specs.Range.{afterIs, afterCheck, afterOf}
 use Rattle.range.specs.declared.After.{After}
+use Rattle.stations.specs.Stations.{tallyIs, totalCheck}
+use Rattle.stations.specs.declared.Totalled.{Totalled}
+use Rattle.stations.specs.declared.Totalled.the-variants.{Sum}
+use Rattle.stations.proofs.Sums.{tally-shown}
 use Rattle.insert.specs.declared.answer.Inserted.{Inserted}
 use Rattle.delete.specs.Meets as delete-answers
 use Rattle.delete.specs.declared.answer.Deleted.{Deleted}
@@ -42,6 +47,11 @@ after-by s t c e = ap (afterCheck (s .words) (s .keys) t) e
 -- on a sound block it answers as the sorted list
 pub after-meets : (s : Slices) (t : Tag) (p : Passed s) → afterOf (s .words) (s .keys) (s .scratch) t .result ≡ afterIs (after t (holds (p .sound)))
 after-meets s t p = after-by s t checked.Sound (check-passed s p) ∙ after-shown (sound-shown (p .sound)) t
+
+-- ── station total, past the check ──
+-- on a sound block it is what the sorted list, filtered, adds up to
+station-meets : (s : Slices) (t : Tag) (p : Passed s) → totalCheck (s .words) (s .keys) t (checkOf (s .words) (s .keys) (s .scratch) .result) ≡ Sum (tallyIs (begun-with t (totals (holds (p .sound)))))
+station-meets s t p = ap (totalCheck (s .words) (s .keys) t) (check-passed s p) ∙ ap Sum (tally-shown (sound-shown (p .sound)) t (p .sound .count))
 
 -- ── what an answer by the list tells ──
 found-told : (o : Option Held) → toldBy (calls.found (answerOf o)) ≡ finds o
@@ -81,6 +91,7 @@ listed-by s z (calls.query (calls.leaf-tag n)) b r =
     (λ e i j. ap (λ (m : ℕ). tag (tagOf (s .words) (s .keys) m)) (sym j) ∙ ap tag (sound-reads z .leaf-tag e i), λ h. ap tag (sound-reads z .tag-free n h))
 listed-by s z (calls.ask calls.check) b r = ap (λ (a : Checked). toldBy (calls.checked a)) (check-passed s (record { room = r refl; sound = z }))
 listed-by s z (calls.ask (calls.first-at-or-after t)) b r = ap (λ (a : After). toldBy (calls.after a)) (after-meets s t (record { room = r refl; sound = z })) ∙ after-told (after t (holds z))
+listed-by s z (calls.ask (calls.station-total t)) b r = ap (λ (a : Totalled). toldBy (calls.totalled a)) (station-meets s t (record { room = r refl; sound = z }))
 listed-by s z (calls.edit (calls.insert t total)) b r =
     (λ h. ap (λ (a : Inserted). toldBy (calls.inserted a)) (insert-too-long s t total h), λ h. inserts-listed s t total b h (record { room = r (ap not h); sound = z }))
 listed-by s z (calls.edit (calls.delete t)) b r = ap (λ (a : Deleted). toldBy (calls.deleted a)) (delete-meets z t b (s .scratch) (r refl) .answer) ∙ taken-told (lookup t (holds z))

@@ -51,7 +51,7 @@ use Rattle.delete.specs.Plan as delete-plan
 use Rattle.delete.specs.declared.plan.Plan as delete-plans
 use Rattle.delete.specs.declared.plan.Plan.the-variants as gone
 use Rattle.delete.proofs.Answers as delete-answers
-use Rattle.demands.specs.Calls.{Query, search, prefix-search, minimum, maximum, next-leaf, leaf-facts, leaf-tag, Asked, check, first-at-or-after, insert, delete}
+use Rattle.demands.specs.Calls.{Query, search, prefix-search, minimum, maximum, next-leaf, leaf-facts, leaf-tag, Asked, check, first-at-or-after, station-total, insert, delete}
 use Rattle.demands.specs.Calls.{Call, start, query, ask, edit, Slices, given, checks, run}
 use Rattle.demands.specs.Told.{Told, toldBy, number}
 use Rattle.demands.specs.Histories.{CallBytes}
@@ -164,6 +164,9 @@ asked-refused check words keys r h = refl
 asked-refused (first-at-or-after t) words keys checked.Sound h = absurd (h refl)
 asked-refused (first-at-or-after t) words keys checked.Damaged h = refl
 asked-refused (first-at-or-after t) words keys checked.ShortScratch h = refl
+asked-refused (station-total t) words keys checked.Sound h = absurd (h refl)
+asked-refused (station-total t) words keys checked.Damaged h = refl
+asked-refused (station-total t) words keys checked.ShortScratch h = refl
 
 inserted-refused : (words keys scratch : List ℕ) (t : Tag) (total : ℕ) (r : Checked) → check-call.numberOf r ≢ 0
     → insert-answer.numberOf (insert-call.insertBy words keys scratch t total r .answer) ≡ check-call.numberOf r
@@ -190,6 +193,7 @@ listed-number (start form c) s p b h a l = absurd (true≢false (sym h))
 listed-number (query q) s p b h a l = absurd (true≢false (sym h))
 listed-number (ask check) s p b h a l = ap (λ (a : Told). a .number) (listed-by s (p .sound) (ask check) b (λ e. p .room) ∙ sym l)
 listed-number (ask (first-at-or-after t)) s p b h a l = ap (λ (a : Told). a .number) (listed-by s (p .sound) (ask (first-at-or-after t)) b (λ e. p .room) ∙ sym l)
+listed-number (ask (station-total t)) s p b h a l = ap (λ (a : Told). a .number) (listed-by s (p .sound) (ask (station-total t)) b (λ e. p .room) ∙ sym l)
 listed-number (edit (insert t total)) s p b h a l =
     let e = not-true _ h in
     ap (λ (a : Told). a .number) (inserts-same (p .sound) t b (listed-by s (p .sound) (edit (insert t total)) b (λ e. p .room) .1 e) (l .1 e))

@@ -24,6 +24,7 @@ use Rattle.leaves.specs.declared.LeafState.the-variants.{Good, Broken, NoLeaf}
 use Rattle.leaves.proofs.Leaves.{tag-short, tag-part, facts-by, len-by, tag-by}
 use Rattle.whole.specs.declared.check.Checked.the-variants as checked
 use Rattle.range.specs.declared.After.the-variants as after
+use Rattle.stations.specs.declared.Totalled.the-variants as totalled
 use Rattle.insert.specs.declared.answer.Inserted.the-variants as inserted
 use Rattle.delete.specs.declared.answer.Deleted.the-variants as deleted
 use Rattle.demands.specs.Calls as calls
@@ -59,6 +60,9 @@ bare (calls.after (after.Leaf n total)) = done
 bare (calls.after after.Missing) = refused 1
 bare (calls.after after.Damaged) = refused 6
 bare (calls.after after.ShortScratch) = refused 7
+bare (calls.totalled (totalled.Sum t)) = done
+bare (calls.totalled totalled.Damaged) = refused 6
+bare (calls.totalled totalled.ShortScratch) = refused 7
 bare (calls.inserted inserted.New) = done
 bare (calls.inserted (inserted.Over total)) = done
 bare (calls.inserted inserted.TooLong) = refused 2

@@ -11,7 +11,7 @@ use Rattle.art.specs.Listings.{Every, Sorted, under, lookup}
 use Rattle.art.specs.Puts.{less-dec, put, keep, alter}
 use Rattle.art.specs.Trees.{Tree, leaf, inner, Row, end, child, contents, row-contents, Good, GoodRow, Above, count}
 use Rattle.art.specs.Facts.{forks, row-forks}
-use Rattle.demands.specs.Histories.{totals}
+use Rattle.reading.specs.Listing.{totals}
 
 -- the total, where something is held
 abbrev pub total-of : Option Held → Option ℕ

@@ -15,6 +15,8 @@ use Rattle.whole.specs.Check as check-call
 use Rattle.whole.specs.declared.check.Checked.{Checked}
 use Rattle.range.specs.Range as after-call
 use Rattle.range.specs.declared.After.{After}
+use Rattle.stations.specs.Stations as station-call
+use Rattle.stations.specs.declared.Totalled.{Totalled}
 use Rattle.insert.specs.Answer as insert-answer
 use Rattle.insert.specs.Insert as insert-call
 use Rattle.insert.specs.declared.answer.Inserted.{Inserted}
@@ -36,6 +38,7 @@ pub data Query : Type 0 where
 pub data Asked : Type 0 where
   check : Asked
   first-at-or-after : (tag : List ℕ) → Asked
+  station-total : (beginning : List ℕ) → Asked
 
 -- a change to one tag after the whole check
 pub data Edit : Type 0 where
@@ -63,6 +66,7 @@ pub data Answer : Type 0 where
   tag : List ℕ → Answer
   checked : Checked → Answer
   after : After → Answer
+  totalled : Totalled → Answer
   inserted : Inserted → Answer
   deleted : Deleted → Answer
 
@@ -94,6 +98,7 @@ reply (leaf-tag n) w k = tag (tagOf w k n)
 abbrev pub given : Asked → (words keys : List ℕ) → Checked → Answer
 given check w k c = checked c
 given (first-at-or-after t) w k c = after (after-call.afterCheck w k t c)
+given (station-total t) w k c = totalled (station-call.totalCheck w k t c)
 
 -- the outcome of an edit
 abbrev pub edited : Edit → Slices → Outcome
@@ -126,6 +131,8 @@ Promise (ask check) s o = (r : Checked) × (o ≡ outcome (checked r) (s .words)
     × (check-call.answer r (o .slices .scratch) ≡ check-call.checkOf (s .words) (s .keys) (s .scratch))
 Promise (ask (first-at-or-after t)) s o = (r : After) × (o ≡ outcome (after r) (s .words) (s .keys) (o .slices .scratch))
     × (after-call.answer r (o .slices .scratch) ≡ after-call.afterOf (s .words) (s .keys) (s .scratch) t)
+Promise (ask (station-total t)) s o = (r : Totalled) × (o ≡ outcome (totalled r) (s .words) (s .keys) (o .slices .scratch))
+    × (station-call.answer r (o .slices .scratch) ≡ station-call.totalOf (s .words) (s .keys) (s .scratch) t)
 Promise (edit (insert t total)) s o = (r : Inserted) × (o ≡ outcome (inserted r) (o .slices .words) (o .slices .keys) (o .slices .scratch))
     × (insert-call.out r (o .slices .words) (o .slices .keys) (o .slices .scratch) ≡ insert-call.insertOf (s .words) (s .keys) (s .scratch) t total)
 Promise (edit (delete t)) s o = (r : Deleted) × (o ≡ outcome (deleted r) (o .slices .words) (o .slices .keys) (o .slices .scratch))

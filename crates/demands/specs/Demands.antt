@@ -15,7 +15,8 @@ use Rattle.reading.specs.Answers.{Bytes}
 use Rattle.whole.specs.Sound.{Sound}
 use Rattle.demands.specs.Calls.{Query, Asked, Call, start, query, ask, leaf-facts, leaf-tag, Edit, edit, insert, delete, Slices}
 use Rattle.demands.specs.Told.{only, withTag}
-use Rattle.demands.specs.Histories.{Block, tagOf, totals, CallBytes}
+use Rattle.reading.specs.Listing.{totals}
+use Rattle.demands.specs.Histories.{Block, tagOf, CallBytes}
 use Rattle.demands.specs.Scratch.{leftIn}
 use Rattle.demands.specs.Drawn.{drawingOf, usedInner}
 use Rattle.demands.specs.Due.{Due}

@@ -1,8 +1,6 @@
 -- Blocks, and calls on them one after the other.
 use Prim.Native.Nat.{ℕ}
 use mathlib.Core.List.{List, [], _∷_}
-use Rattle.records.specs.View.{Held}
-use Rattle.art.specs.Tags.{Listing}
 use Rattle.reading.specs.Answers.{Bytes}
 use Rattle.demands.specs.Calls as calls
 use Rattle.demands.specs.Calls.{Call, Query, Edit, Slices, run}
@@ -30,11 +28,6 @@ abbrev pub after-all : Block → List Turn → Block
 after-all b [] = b
 after-all b (t ∷ ts) = after-all (next b t) ts
 
--- tags with their totals
-abbrev pub totals : Listing Held → Listing ℕ
-totals [] = []
-totals (e ∷ l) = (e .0, e .1 .total) ∷ totals l
-
 -- the tag that an edit is given
 abbrev pub tagOf : Edit → List ℕ
 tagOf (calls.insert t total) = t
@@ -56,6 +49,7 @@ CallBytes (calls.start form c) = Unit {0}
 CallBytes (calls.query q) = QueryBytes q
 CallBytes (calls.ask calls.check) = Unit {0}
 CallBytes (calls.ask (calls.first-at-or-after t)) = Bytes t
+CallBytes (calls.ask (calls.station-total t)) = Bytes t
 CallBytes (calls.edit e) = Bytes (tagOf e)
 
 -- and so in every call of a history

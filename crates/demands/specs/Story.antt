@@ -10,7 +10,8 @@ use Rattle.reading.specs.Answers.{Bytes}
 use Rattle.reading.specs.Calls.{Reads}
 use Rattle.whole.specs.Sound.{Sound}
 use Rattle.demands.specs.Calls.{Call, run}
-use Rattle.demands.specs.Histories.{Block, lent, CallBytes, totals}
+use Rattle.reading.specs.Listing.{totals}
+use Rattle.demands.specs.Histories.{Block, lent, CallBytes}
 use Rattle.demands.specs.Drawn.{drawingOf, usedInner}
 use Rattle.demands.specs.Listed.{Suffices, Listed}
 use Rattle.demands.specs.Ledger.{Ledger}

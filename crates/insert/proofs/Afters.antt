@@ -32,7 +32,7 @@ use Rattle.view.specs.Links.{linksOf}
 use Rattle.view.proofs.Views.{used-place}
 use Rattle.reading.specs.Shown.{Shown}
 use Rattle.reading.proofs.Entries.{numbers-held, entry-seen, entry-obeys}
-use Rattle.reading.proofs.Nexts.{numbersOf, next-word}
+use Rattle.reading.proofs.Nexts.{numbersOf, first-word, next-word}
 use Rattle.pointed.proofs.Neighbours.{leaf-used}
 use Rattle.range.specs.Range.{below, leafStep, stepOf, afterFrom, afterFirst, afterIs}
 use Rattle.range.specs.declared.After.the-variants.{Leaf, Missing}
@@ -139,10 +139,6 @@ module _ {f : Frame} {words keys : List ℕ} {d : Option (Tree Held)} (s : Shown
             (step-here e here ref r (Final (Leaf (e .1 .number) (totalOf rec))) (leaf-not-below rec key tag (e .1 .number) (entry-short e here) (tag-less e here false (less-no (e .0) tag h))))
             ∙ ap (Leaf (e .1 .number)) (sym (entry-seen s e here .total-is))
 
-    first-is : firstWord words ≡ head-of (numbersOf (held d))
-    unfolding linksOf
-    first-is = sym (if-pos (ℕ-discrete 0 0) refl (firstWord words) (linksOf f words .next 0)) ∙ linked-after (linksOf f words) [] (leaves-of d) (s .linked) ∙ ap head-of (sym (numbers-held s))
-
     -- first-at-or-after: the walk answers with what the first tag of the sorted list that is not below the given one holds
     pub after-shown : afterFirst f words keys tag ≡ afterIs (after tag (held d))
-    after-shown = walk-from (held d) [] refl (getD (f .caps) 5 0 + 1) (omega (arith, held-few)) (firstWord words) first-is
+    after-shown = walk-from (held d) [] refl (getD (f .caps) 5 0 + 1) (omega (arith, held-few)) (firstWord words) (first-word s)

@@ -20,7 +20,8 @@ use Rattle.pointed.proofs.Points.{tag-bytes}
 use Rattle.demands.specs.Calls as calls
 use Rattle.demands.specs.Calls.{Query, query, search, minimum, edit, insert, delete, Slices, run}
 use Rattle.demands.specs.Told.{Told, only, withLeaf}
-use Rattle.demands.specs.Histories.{Block, totals}
+use Rattle.reading.specs.Listing.{totals}
+use Rattle.demands.specs.Histories.{Block}
 use Rattle.demands.specs.Due as due
 use Rattle.demands.specs.Listed.{holds, finds}
 use Rattle.demands.specs.Ledger.{gives}

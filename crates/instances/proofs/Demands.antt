@@ -30,7 +30,8 @@ use Rattle.demands.specs.Calls as calls
 use Rattle.art.proofs.Clashes.{clash-clashes, free-unclashed}
 use Rattle.demands.specs.Calls.{Call, query, ask, Edit, edit, search, leaf-tag, check, insert, delete, Outcome, outcome, Promise, run}
 use Rattle.demands.specs.Told.{Told, only, withTotal, withLeaf, withTag, toldBy}
-use Rattle.demands.specs.Histories.{Block, Turn, next, after-all, totals}
+use Rattle.reading.specs.Listing.{totals}
+use Rattle.demands.specs.Histories.{Block, Turn, next, after-all}
 use Rattle.demands.specs.Drawn.{drawingOf}
 use Rattle.demands.specs.Due.{Due}
 use Rattle.demands.specs.Ledger.{ledger}

@@ -10,14 +10,13 @@ use borrow.Author.Tests.{lt-ltb, le-ltb, eq-eqb, ne-eqb}
 use Rattle.lists.specs.Scan.{choose}
 use Rattle.lists.specs.Compare.{less}
 use Rattle.lists.specs.Part.{between}
-use Rattle.frames.specs.Frame.{frameFits, frame, FrameOf}
+use Rattle.frames.specs.Frame.{FrameOf}
 use Rattle.frames.specs.Place.{placeAt, inPool, startAt, keyAt}
 use Rattle.frames.specs.declared.frame.Frame.{Frame}
 use Rattle.records.specs.Own.{totalOf}
 use Rattle.art.specs.Stores.{Place, leaf-place}
 use Rattle.whole.specs.Check as check
 use Rattle.whole.specs.declared.check.Checked.{Checked}
-use Rattle.whole.specs.declared.check.Checked.the-variants as checked
 use Rattle.tree.proofs.Arrivals.{leaf-named, inner-named}
 use Rattle.range.specs.Range.{below, leafStep, placeStep, stepOf, afterFrom, afterFirst, walkOf, answer, afterCheck, afterOf}
 use Rattle.range.specs.declared.After.{After}
@@ -101,18 +100,6 @@ module _ (f : Frame) (words keys tag : List ℕ) where
 -- ── the call ──
 pub walk-by : {f : Frame} {words keys : List ℕ} (tag : List ℕ) {a : After} → FrameOf f words keys → a ≡ afterFirst f words keys tag → a ≡ walkOf words keys tag
 walk-by {f} {words} {keys} tag w e = e ∙ ap (λ (g : Frame). afterFirst g words keys tag) (w .read)
-
--- a block that the check finds sound has a frame that fits
-pub sound-fits : (words keys scratch : List ℕ) {c : Checked} {s : List ℕ} → check.answer c s ≡ check.checkOf words keys scratch → c ≡ checked.Sound
-    → frameFits words keys ≡ true
-unfolding check.checkOf
-sound-fits words keys scratch {c} {s} e k = go (frameFits words keys) refl (sym k ∙ ap (λ (x : check.Answer). x .result) e)
-  where
-    go : (b : Bool) → frameFits words keys ≡ b
-        → checked.Sound ≡ choose b (check.checkWith (frame words) words keys scratch) (check.answer checked.Damaged scratch) .result
-        → frameFits words keys ≡ true
-    go true q h = q
-    go false q h = cc
 
 pub call-by : (words keys scratch tag : List ℕ) {c : Checked} {s : List ℕ} {a : After} → check.answer c s ≡ check.checkOf words keys scratch
     → a ≡ afterCheck words keys tag c → answer a s ≡ afterOf words keys scratch tag

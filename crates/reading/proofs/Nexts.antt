@@ -1,13 +1,15 @@
 -- A leaf of the sorted list is in use and obeys its rule, and its next is the one after it in the list; so the calls on leaf numbers read the list.
 use Prim.Native.Nat.{ℕ, zero, suc, _≤_}
 use mathlib.Core.Path.{_≡_, refl, sym, ap, ap₂, subst, _∙_}
-use mathlib.Core.Logic.{inl, inr}
+use mathlib.Core.Logic.{inl, inr, if-pos}
 use mathlib.Core.List.{List, [], _∷_, _++_, append-assoc}
 use mathlib.Core.Option.{Option}
+use native.Mathlib.Decide.{ℕ-discrete}
 use native.Mathlib.Omega.{arith}
 use borrow.Author.Tests.{ne-eqb}
 use lib.ListN.{length, getD}
 use Rattle.art.proofs.Leaves.{numbers-append}
+use Rattle.frames.specs.Frame.{firstWord}
 use Rattle.frames.specs.Place.{placeAt, inPool, startAt, recordAt}
 use Rattle.frames.specs.declared.frame.Frame.{Frame}
 use Rattle.frames.proofs.Places.{place-leaf}
@@ -25,7 +27,7 @@ use Rattle.art.specs.Orders.{first-of}
 use Rattle.art.specs.Chain.{Linked, leaf-ref, head-of, numbers, leaves-of}
 use Rattle.art.specs.Stores.{leaf-place}
 use Rattle.art.proofs.Members.{in-right}
-use Rattle.art.proofs.Chains.{linked-here}
+use Rattle.art.proofs.Chains.{linked-after, linked-here}
 use Rattle.view.specs.Links.{linksOf}
 use Rattle.view.proofs.Chains.{link-in-pool}
 use Rattle.reading.specs.Shown.{Shown}
@@ -68,6 +70,11 @@ module _ {f : Frame} {words keys : List ℕ} {d : Option (Tree Held)} (s : Shown
   next-first : (rest : Listing Held) → ((e : Tag × Held) → In e rest → In e (held d)) → (ref : ℕ) → ref ≡ head-of (numbersOf rest) → nextOf f words ref ≡ answerOf (first-of rest)
   next-first [] h ref q = sym (next-none f words ref q)
   next-first (e ∷ rest) h ref q = next-here e (h e (inl refl)) ref q
+
+  -- the list's first is the first entry's leaf
+  pub first-word : firstWord words ≡ head-of (numbersOf (held d))
+  unfolding linksOf
+  first-word = sym (if-pos (ℕ-discrete 0 0) refl (firstWord words) (linksOf f words .next 0)) ∙ linked-after (linksOf f words) [] (leaves-of d) (s .linked) ∙ ap head-of (sym (numbers-held s))
 
   -- the reference after an entry's leaf is that of the next entry
   pub next-word : (front : Listing Held) (e : Tag × Held) (rest : Listing Held) → held d ≡ front ++ e ∷ rest → In e (held d)

@@ -1,6 +1,6 @@
 -- The ends of the check, and the cases of the call.
 use Prim.Native.Nat.{ℕ, _-_, _≤_, _<_}
-use mathlib.Core.Path.{_≡_, sym, ap, subst, _∙_}
+use mathlib.Core.Path.{_≡_, refl, sym, ap, subst, _∙_}
 use mathlib.Core.List.{List, _++_}
 use mathlib.Core.Bool.{Bool, true, false, _&&_}
 use native.Mathlib.Nat.{sub-zero}
@@ -18,6 +18,7 @@ use Rattle.whole.specs.Check.{atStart, rootWay, endedWell, wayWell, whol
 use Rattle.whole.specs.declared.well_formed.Seen.{Seen}
 use Rattle.whole.specs.declared.well_formed.Visit.{Visit}
 use Rattle.whole.specs.declared.well_formed.Visit.the-variants.{Well}
+use Rattle.whole.specs.declared.check.Checked.{Checked}
 use Rattle.whole.specs.declared.check.Checked.the-variants.{Sound, Damaged, ShortScratch}
 
 -- ── the end of the way ──
@@ -111,3 +112,15 @@ module _ {words keys scratch : List ℕ} {f : Frame} {n : ℕ} {r : Bool} {m z :
       ∙ ap (λ (l : List ℕ). answer (choose (wholeBy f words keys) Sound Damaged) (replicate (placesIn f) 0 ++ l))
       (drop-at m (drop (n - 0) scratch) (n - 0) marks-long ∙ ap (λ (i : ℕ). drop i scratch) (sub-zero n ∙ h .places))
       ∙ check-done scratch (h .frame) (subst (λ (k : ℕ). k ≤ length scratch) (h .places) (h .room))
+
+-- a block that the check finds sound has a frame that fits
+pub sound-fits : (words keys scratch : List ℕ) {c : Checked} {s : List ℕ} → answer c s ≡ checkOf words keys scratch → c ≡ Sound
+    → frameFits words keys ≡ true
+unfolding checkOf
+sound-fits words keys scratch {c} {s} e k = go (frameFits words keys) refl (sym k ∙ ap (λ (x : Answer). x .result) e)
+  where
+    go : (b : Bool) → frameFits words keys ≡ b
+        → Sound ≡ choose b (checkWith (frame words) words keys scratch) (answer Damaged scratch) .result
+        → frameFits words keys ≡ true
+    go true q h = q
+    go false q h = cc

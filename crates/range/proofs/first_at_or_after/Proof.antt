@@ -1,7 +1,8 @@
 -- `first_at_or_after` meets its contract: each answer of the check is a case of `afterCheck`, and nothing but the check writes to scratch.
 use mathlib.Core.Path.{sym, ap, _∙_}
 use Rattle.range.specs.Range.{afterCheck}
-use Rattle.range.proofs.Steps.{sound-fits, call-by}
+use Rattle.whole.proofs.Calls.{sound-fits}
+use Rattle.range.proofs.Steps.{call-by}
 use borrow.Author.Needs.{needs}
 use Rattle.range.proofs.first_at_or_after.Statement.{statement}
 use Rattle.range.proofs.first_at_or_after.Tie as tie
