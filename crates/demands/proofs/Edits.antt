@@ -75,7 +75,7 @@ held-sorted (some t) g = sorted t g
 pub holds-sorted : {words keys : List ℕ} (z : Sound words keys) → Sorted (holds z)
 holds-sorted z = held-sorted (z .tree) (z .good)
 
-without-leave : (t : Tag) (l : Listing ℕ) → without t l ≡ leave t l
+pub without-leave : (t : Tag) (l : Listing ℕ) → without t l ≡ leave t l
 without-leave t [] = refl
 without-leave t (e ∷ l) = ap (λ (r : Listing ℕ). ite (tag-dec t (e .0)) r (e ∷ r)) (without-leave t l)
 

@@ -23,5 +23,6 @@ pub mod Histories
 pub mod Corollaries
 pub mod Demands
 pub mod Lasts
+pub mod Stations
 pub mod Walks
 pub mod Takes

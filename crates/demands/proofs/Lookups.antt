@@ -88,6 +88,23 @@ module _ {A : Type 0} where
       go (yes k) ih = ih
       go (no k) ih = if-neg (tag-dec t (e .0)) k _ _ ∙ ih
 
+  -- what is left beside a tag is the same, whatever it was given
+  pub leave-put : (t : Tag) (a : A) (l : Listing A) → leave t (put t a l) ≡ leave t l
+  leave-put t a [] = if-pos (tag-dec t t) refl _ _
+  leave-put t a (e ∷ l) = go (less-dec t (e .0)) (leave-put t a l)
+    where
+      go : (d : Dec (Less t (e .0))) → leave t (put t a l) ≡ leave t l → leave t (ite {C = Listing A} d ((t, a) ∷ e ∷ l) (e ∷ put t a l)) ≡ leave t (e ∷ l)
+      go (yes k) ih = if-pos (tag-dec t t) refl _ _
+      go (no k) ih = ap (λ (m : Listing A). ite (tag-dec t (e .0)) m (e ∷ m)) ih
+
+  pub leave-leave : (t : Tag) (l : Listing A) → leave t (leave t l) ≡ leave t l
+  leave-leave t [] = refl
+  leave-leave t (e ∷ l) = go (tag-dec t (e .0)) (leave-leave t l)
+    where
+      go : (d : Dec (t ≡ e .0)) → leave t (leave t l) ≡ leave t l → leave t (ite {C = Listing A} d (leave t l) (e ∷ leave t l)) ≡ ite {C = Listing A} d (leave t l) (e ∷ leave t l)
+      go (yes k) ih = ih
+      go (no k) ih = if-neg (tag-dec t (e .0)) k _ _ ∙ ap (λ (m : Listing A). e ∷ m) ih
+
   -- ── what is held for another tag ──
   pub lookup-put : (s t : Tag) → s ≢ t → (b : A) (l : Listing A) → lookup s (put t b l) ≡ lookup s l
   lookup-put s t ne b [] = if-neg (tag-dec s t) ne _ _

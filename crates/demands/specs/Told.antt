@@ -1,5 +1,5 @@
 -- What an answer tells, beside its number: values that are 0 where it has none.
-use Prim.Native.Nat.{ℕ}
+use Prim.Native.Nat.{ℕ, _+_, _*_, _^_}
 use mathlib.Core.List.{List, []}
 use lib.ListN.{length}
 use Rattle.pools.specs.Start.{startNumber}
@@ -36,6 +36,10 @@ withCount n t = record { number = t .number; leaf = t .leaf; length = t .length;
 -- with carries, each of them 2 ^ 64 beside the total
 abbrev pub withCarries : ℕ → Told → Told
 withCarries n t = record { number = t .number; leaf = t .leaf; length = t .length; total = t .total; count = t .count; carries = n; tag = t .tag }
+
+-- the sum that total and carries stand for
+abbrev pub summed : Told → ℕ
+summed t = t .carries * 2 ^ 64 + t .total
 
 -- with a leaf
 abbrev pub withLeaf : ℕ → Told → Told

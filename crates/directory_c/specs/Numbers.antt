@@ -15,6 +15,7 @@ use Rattle.directory_c.specs.declared.DirectoryChanged.{DirectoryChanged
 use Rattle.directory_c.specs.declared.DirectoryFound.{DirectoryFound}
 use Rattle.directory_c.specs.declared.DirectoryLeaf.{DirectoryLeaf}
 use Rattle.directory_c.specs.declared.DirectoryPart.{DirectoryPart}
+use Rattle.directory_c.specs.declared.DirectoryStation.{DirectoryStation}
 
 -- ── what is lent ──
 -- these three slices
@@ -41,6 +42,10 @@ foundAs t = record { number = t .number; leaf = t .leaf; total = t .total }
 -- leaf facts gives number, length and total
 abbrev pub leafAs : Told → DirectoryLeaf
 leafAs t = record { number = t .number; length = t .length; total = t .total }
+
+-- station total gives number, count, the low part of the sum, and carries
+abbrev pub stationAs : Told → DirectoryStation
+stationAs t = record { number = t .number; count = t .count; low = t .total; carries = t .carries }
 
 -- this number and this total
 abbrev pub changed : (number total : ℕ) → DirectoryChanged

@@ -2,14 +2,17 @@
 ghost use mathlib.Core.List.{[]};
 ghost use mathlib.Core.Path.{_≡_};
 ghost use Rattle.demands.specs.Calls as calls;
-ghost use Rattle.demands.specs.Told.{toldBy};
-ghost use Rattle.directory_c.specs.Numbers.{lent, lentTwo, capsOf, numberAs, foundAs, leafAs, changed, changedAs, tagStart, partAs, Does, Replies};
+ghost use Rattle.demands.specs.Told.{only, toldBy};
+ghost use Rattle.stations.specs.declared.Totalled.the-variants.{Sum};
+ghost use Rattle.directory_c.specs.Numbers.{lent, lentTwo, capsOf, numberAs, foundAs, leafAs, stationAs, changed, changedAs, tagStart, partAs, Does, Replies};
 use delete::answer::Deleted;
 use frames::frame;
 use frames::frame::Caps;
 use insert::answer::Inserted;
 use pools::start::Started;
 use range::After;
+use stations::Totalled;
+use tally::Tally;
 use tree::answer::Facts;
 use tree::answer::Found;
 use whole::check::Checked;
@@ -35,6 +38,15 @@ pub struct DirectoryLeaf {
     pub number: u32,
     pub length: u32,
     pub total: u64,
+}
+
+// How many tags begin so, the sum of their totals by its low 64 bits and its carries, and the number given back.
+#[repr(C)]
+pub struct DirectoryStation {
+    pub number: u32,
+    pub count: u32,
+    pub low: u64,
+    pub carries: u64,
 }
 
 // A tag as a part of the key bytes; 0 and 0 where it is empty.
@@ -249,6 +261,51 @@ pub extern "C" fn directory_first_at_or_after(
     ensures { λ r. ⌜ Does foundAs (calls.ask (calls.first-at-or-after (now (tag .entry)))) (lent (now (words .entry)) (now (keys .entry)) (now (scratch .entry))) r (lent (now (words .entry)) (now (keys .entry)) (now (scratch .exit))) ⌝ }
 {
     after_found(range::first_at_or_after(words, keys, scratch, tag))
+}
+
+fn station_sum(t: Tally) -> DirectoryStation
+    ensures { λ r. ⌜ r ≡ stationAs (toldBy (calls.totalled (Sum t))) ⌝ }
+{
+    DirectoryStation {
+        number: 0,
+        count: t.count,
+        low: t.low,
+        carries: t.carries as u64,
+    }
+}
+
+// A refused station total is zeros beside its number.
+fn station_refused(number: u32) -> DirectoryStation
+    ensures { λ r. ⌜ r ≡ stationAs (only number) ⌝ }
+{
+    DirectoryStation {
+        number: number,
+        count: 0,
+        low: 0,
+        carries: 0,
+    }
+}
+
+fn station(a: Totalled) -> DirectoryStation
+    ensures { λ r. ⌜ r ≡ stationAs (toldBy (calls.totalled a)) ⌝ }
+{
+    match a {
+        Totalled::Sum(t) => station_sum(t),
+        Totalled::Damaged => station_refused(6),
+        Totalled::ShortScratch => station_refused(7),
+    }
+}
+
+#[no_mangle]
+pub extern "C" fn directory_station_total(
+    words: &[u32],
+    keys: &[u8],
+    scratch: &mut [u8],
+    tag: &[u8],
+) -> DirectoryStation
+    ensures { λ r. ⌜ Does stationAs (calls.ask (calls.station-total (now (tag .entry)))) (lent (now (words .entry)) (now (keys .entry)) (now (scratch .entry))) r (lent (now (words .entry)) (now (keys .entry)) (now (scratch .exit))) ⌝ }
+{
+    station(stations::station_total(words, keys, scratch, tag))
 }
 
 fn changed(number: u32, total: u64) -> DirectoryChanged

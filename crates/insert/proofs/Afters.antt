@@ -1,7 +1,7 @@
 -- The walk along the leaf list of a block that shows a directory ends at the first held tag that is not below, since the list has the leaves in order and each step passes over one.
 use Prim.Native.Nat.{ℕ, suc, _+_, _-_, _/_, _≤_, _<_}
 use mathlib.Core.Path.{_≡_, refl, sym, ap, ap₂, subst, _∙_}
-use mathlib.Core.Logic.{inl, inr, ite, if-pos}
+use mathlib.Core.Logic.{inl, inr, ite}
 use mathlib.Core.List.{List, [], _∷_, _++_, append-assoc}
 use mathlib.Core.Option.{Option, none, some}
 use mathlib.Core.Bool.{Bool, true, false, _&&_, _||_}
@@ -26,9 +26,7 @@ use Rattle.art.specs.Members.{In, Different}
 use Rattle.art.specs.Chain.{leaf-ref, head-of, leaves-of}
 use Rattle.art.specs.Stores.{leaf-place}
 use Rattle.art.proofs.Members.{in-right}
-use Rattle.art.proofs.Chains.{linked-after}
 use Rattle.art.proofs.Leaves.{leaves-different}
-use Rattle.view.specs.Links.{linksOf}
 use Rattle.view.proofs.Views.{used-place}
 use Rattle.reading.specs.Shown.{Shown}
 use Rattle.reading.proofs.Entries.{numbers-held, entry-seen, entry-obeys}

@@ -19,7 +19,7 @@ use Rattle.whole.proofs.Samples.{two-sound}
 use Rattle.pointed.proofs.Points.{tag-bytes}
 use Rattle.demands.specs.Calls as calls
 use Rattle.demands.specs.Calls.{Query, query, search, minimum, edit, insert, delete, Slices, run}
-use Rattle.demands.specs.Told.{Told, only, withLeaf}
+use Rattle.demands.specs.Told.{Told, only, withLeaf, withLength, withTag}
 use Rattle.reading.specs.Listing.{totals}
 use Rattle.demands.specs.Histories.{Block}
 use Rattle.demands.specs.Due as due
@@ -82,7 +82,7 @@ rover = port-but (λ q s. claimed (replied q s) (record { words = set (s .words)
 
 -- the call that gives a tag gives no byte of it
 abbrev nameless : Program
-nameless = port-but (λ q s. let o = replied q s in record { told = record { number = o .told .number; leaf = o .told .leaf; length = o .told .length; total = o .told .total; tag = [] }; slices = s }) as-is as-is
+nameless = port-but (λ q s. let o = replied q s in record { told = withLength (o .told .length) (withTag [] (o .told)); slices = s }) as-is as-is
 
 -- an insert does nothing
 abbrev idle : Program

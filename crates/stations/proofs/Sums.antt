@@ -1,7 +1,7 @@
 -- On a block that shows a directory the pass meets every entry once, in order, so the tally is that of the sorted list filtered by the beginning: adding one after the other loses nothing, since
 -- what the low word loses is a carry.
-use Prim.Native.Nat.{ℕ, suc, _+_, _-_, _^_, _/_, _%_, _≤_, _<_}
-use mathlib.Core.Path.{_≡_, refl, sym, ap, ap₂, subst, _∙_}
+use Prim.Native.Nat.{ℕ, suc, _+_, _-_, _^_, _/_, _%_, _<_}
+use mathlib.Core.Path.{_≡_, refl, sym, ap, subst, _∙_}
 use mathlib.Core.Logic.{inl, ite}
 use mathlib.Core.List.{List, [], _∷_, _++_, append-assoc}
 use mathlib.Core.Option.{Option}
@@ -9,7 +9,6 @@ use mathlib.Core.Bool.{Bool, true, false}
 use native.Mathlib.Nat.{sub-zero}
 use native.Mathlib.Omega.{arith}
 use lib.ListN.{length, take}
-use borrow.Author.Tests.{le-ltb}
 use Rattle.lists.specs.Scan.{choose}
 use Rattle.lists.specs.Compare.{begins}
 use Rattle.lists.proofs.Compares.{begins-rest, rest-begins}

@@ -2,12 +2,11 @@
 // each once, and one pass along it adds up those that begin so.
 ghost use mathlib.Core.Path.{_≡_};
 ghost use mathlib.Core.Bool.{true};
-ghost use Prim.Native.Nat.{_≤_, _<_, _+_, _*_, _^_};
+ghost use Prim.Native.Nat.{_≤_, _<_, _+_, _*_};
 ghost use lib.ListN.{length};
 ghost use Rattle.lists.specs.Part.{between};
 ghost use Rattle.frames.specs.Kind.{leafSize};
 ghost use Rattle.frames.specs.Frame.{frameFits, FrameOf};
-ghost use Rattle.records.specs.Words.{tagLength};
 ghost use Rattle.tally.specs.Tally.{Room};
 ghost use Rattle.stations.specs.Stations.{startsSo, leafEntry, entryOf, noEntry, tallyOne, tallyList, tallyOf, answer, totalOf};
 use frames::frame;

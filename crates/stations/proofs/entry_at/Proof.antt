@@ -1,6 +1,5 @@
 -- `entry_at` meets its contract: each return is a case of `entryOf`, and a leaf of the pool lies within the slices.
 use mathlib.Core.Path.{_∙_}
-use native.Mathlib.Omega.{arith}
 use Rattle.tree.proofs.Arrivals.{fails, holds, leaf-named, leaf-in}
 use Rattle.stations.proofs.Steps.{at-other, at-outside, at-leaf}
 use borrow.Author.Needs.{needs}

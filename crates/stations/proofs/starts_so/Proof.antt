@@ -1,7 +1,6 @@
 -- `starts_so` meets its contract: the tag is the front of the leaf's key bytes.
 use Rattle.stations.proofs.Steps.{starts-long, starts-by}
 use borrow.Author.Needs.{needs}
-use native.Mathlib.Omega.{arith}
 use Rattle.stations.proofs.starts_so.Statement.{statement}
 use Rattle.stations.proofs.starts_so.Tie as tie
 
