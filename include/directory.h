@@ -26,10 +26,10 @@
  * aligned and good for its count. To insert or delete a tag that directory_leaf_tag showed, copy
  * it out of the key bytes first.
  *
- * Check, first-at-or-after, insert and delete look at the whole directory, and use the stack for
- * it: 5 KB and some 930 bytes for each level of the tree. That is 5 KB for 256 one-byte tags and
- * 64 KB for the deepest tree that there can be (measured, not proved; where the system looks up
- * memcpy at its first call, that call takes some 1,400 bytes more).
+ * Check, first-at-or-after, station total, insert and delete look at the whole directory, and use
+ * the stack for it: 5 KB and some 930 bytes for each level of the tree. That is 5 KB for 256
+ * one-byte tags and 64 KB for the deepest tree that there can be (measured, not proved; where the
+ * system looks up memcpy at its first call, that call takes some 1,400 bytes more).
  *
  * TAGS. A tag is any string of bytes, up to 64 of them. No held tag begins another: PUMP10 beside
  * PUMP1 is 3, whichever comes first. Where tags may begin each other, end every tag with one byte
@@ -38,7 +38,8 @@
  *
  * Prefix search goes from the longer bytes to the shorter tag: of PUMP10/FLOW it finds the held
  * tag PUMP10/, and of PUMP it finds neither. To list the tags that begin with PUMP, begin with
- * first-at-or-after PUMP, and go on by next leaf for as long as the tags begin with PUMP.
+ * first-at-or-after PUMP, and go on by next leaf for as long as the tags begin with PUMP. To count
+ * them and to add up their totals, station total takes one call.
  *
  * AT THE SAME TIME. The library takes no lock and keeps nothing between calls.
  *
@@ -57,8 +58,8 @@
  * again.
  *
  * DAMAGE. With scratch enough the check gives 0 exactly for sound blocks. First-at-or-after,
- * insert and delete check first, so their 0, 1, 3, 4 and 5 say that the block was sound. On a
- * sound block every answer of every call is right.
+ * station total, insert and delete check first, so their 0, 1, 3, 4 and 5 say that the block was
+ * sound. On a sound block every answer of every call is right.
  *
  * Search, prefix search, minimum, maximum, next leaf and the two calls on a leaf test the slices'
  * lengths, the words of the trailer that never change and the records on their own way, and no
@@ -104,6 +105,14 @@ typedef struct {
     uint32_t length;
     uint64_t total;
 } directory_leaf;
+
+/* How many tags begin with the bytes, and the sum of their totals: carries * 2^64 + low. */
+typedef struct {
+    uint32_t number;
+    uint32_t count;
+    uint64_t low;
+    uint64_t carries;
+} directory_station;
 
 /* A leaf's tag as a part of the key bytes: keys[start] up to keys[start + length - 1]. Both are 0
  * for the empty tag and for a refusal, which directory_leaf_facts tells apart. */
@@ -160,6 +169,14 @@ uint32_t directory_check(const uint32_t *words, size_t word_count, const uint8_t
 directory_found directory_first_at_or_after(const uint32_t *words, size_t word_count,
     const uint8_t *keys, size_t key_count, uint8_t *scratch, size_t scratch_count,
     const uint8_t *bytes, size_t byte_count);
+
+/* How many held tags begin with the given bytes, which may be of any length, and the exact sum of
+ * their totals: carries times 2^64, and low. No such tag is 0, with a count and a sum of 0; no
+ * bytes at all ask for the whole directory. It checks the whole directory first, and leaves
+ * scratch as directory_check does. 0, 6 or 7. */
+directory_station directory_station_total(const uint32_t *words, size_t word_count,
+    const uint8_t *keys, size_t key_count, uint8_t *scratch, size_t scratch_count,
+    const uint8_t *beginning, size_t beginning_count);
 
 /* Hold a tag with this total; of a tag that is held already, change the total. It checks the whole
  * directory first, and leaves scratch as directory_check does; a tag over 64 bytes is refused

@@ -169,31 +169,27 @@ station-kept b k e q h s bytes n r =
     edit-either e (lent b q) h k (λ words keys. station s r words keys ≡ station s r (b .words) (b .keys)) refl (λ z w j c. both-told s r bytes z (c .after) (c .same-frame) (begun-same c s n))
 
 -- an accepted change to one that does moves count and sum by what the tag had and what it was given
-module _ (b : Block) (k : Bytes (b .keys)) (e : Edit) (h : Bytes (tagOf e)) (q : List ℕ) (a : AcceptedBy (seen run) b e q) (s : Tag) (bytes : Bytes s) (r : List ℕ) (room : Enough (lent b r)) where
-  abbrev z : Sound (b .words) (b .keys)
-  z = edit-was e (lent b q) a
-
-  abbrev old : Told
-  old = tells (seen run) b (ask (station-total s)) r
-
-  abbrev new : Told
-  new = tells (seen run) (nextBy (seen run) b (edit e) q) (ask (station-total s)) r
-
-  pub station-moved : Begins s (tagOf e)
-      → (new .count + one-of (lookup (tagOf e) (totals (holds z))) ≡ old .count + one-of (gives e)) × (summed new + or-0 (lookup (tagOf e) (totals (holds z))) ≡ summed old + or-0 (gives e))
-  station-moved begins =
-      let c = edit-changes e (lent b q) h k a z in
-      let i = station-is (seen run) (demands .on-sound) {b = b} (z, refl) s bytes r room in
-      let j = station-is (seen run) (demands .on-sound) {b = nextBy (seen run) b (edit e) q} (c .after, refl) s bytes r (omega (arith, ap placesIn (c .same-frame))) in
-      let m = begun-moved c s begins in
-      (omega (arith, m .0, ap (λ (t : Told). t .count) i, ap (λ (t : Told). t .count) j), omega (arith, m .1, ap summed i ∙ adds-sum (begun-with s (totals (holds z))), ap summed j ∙ adds-sum (begun-with s (totals (holds (c .after))))))
+pub station-moved : (b : Block) → Bytes (b .keys) → {l : Listing ℕ} → (y : (z : Sound (b .words) (b .keys)) × (totals (holds z) ≡ l)) → (e : Edit) → Bytes (tagOf e) → (q : List ℕ) → AcceptedBy (seen run) b e q
+    → (s : Tag) → Bytes s → Begins s (tagOf e) → (r : List ℕ) → Enough (lent b r)
+    → let old = tells (seen run) b (ask (station-total s)) r in let new = tells (seen run) (nextBy (seen run) b (edit e) q) (ask (station-total s)) r in
+    (new .count + one-of (lookup (tagOf e) l) ≡ old .count + one-of (gives e)) × (summed new + or-0 (lookup (tagOf e) l) ≡ summed old + or-0 (gives e))
+station-moved b k {l} y e h q a s bytes begins r room =
+    let z = y .0 in
+    let c = edit-changes e (lent b q) h k a z in
+    let i = station-is (seen run) (demands .on-sound) {b = b} (z, refl) s bytes r room in
+    let j = station-is (seen run) (demands .on-sound) {b = nextBy (seen run) b (edit e) q} (c .after, refl) s bytes r (omega (arith, ap placesIn (c .same-frame))) in
+    let m = begun-moved c s begins in
+    let had = ap (lookup (tagOf e)) (y .1) in (
+      omega (arith, m .0, ap one-of had, ap (λ (t : Told). t .count) i, ap (λ (t : Told). t .count) j),
+      omega (arith, m .1, ap or-0 had, ap summed i ∙ adds-sum (begun-with s (totals (holds z))), ap summed j ∙ adds-sum (begun-with s (totals (holds (c .after))))),
+    )
 
 -- scrapping a tag that begins so takes exactly it and its total off
 pub station-scrapped : (b : Block) → Bytes (b .keys) → (t : Tag) → Bytes t → (q : List ℕ) → AcceptedBy (seen run) b (delete t) q → (s : Tag) → Bytes s → Begins s t → (r : List ℕ) → Enough (lent b r)
     → let old = tells (seen run) b (ask (station-total s)) r in let new = tells (seen run) (nextBy (seen run) b (edit (delete t)) q) (ask (station-total s)) r in
     (old .count ≡ new .count + 1) × (summed old ≡ summed new + tells (seen run) b (edit (delete t)) q .total)
 station-scrapped b k t h q a s bytes begins r room =
-    let m = station-moved b k (delete t) h q a s bytes r room begins in
+    let m = station-moved b k (z, refl) (delete t) h q a s bytes begins r room in
     let v = gone (lookup t (holds z)) (demands .on-sound (lent b q) z (edit (delete t)) h (λ e. enough (decLe (placesIn (frame (b .words))) (length q)))) in
     let had = totals-lookup t (holds z) ∙ ap total-of (v .1) in
     (omega (arith, m .0, ap one-of had), omega (arith, m .1, ap or-0 had, v .2))

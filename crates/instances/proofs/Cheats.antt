@@ -8,7 +8,7 @@ use native.Mathlib.Omega.{arith}
 use lib.ListN.{getD, length, replicate, set}
 use Rattle.records.specs.View.{Held}
 use Rattle.art.specs.Tags.{Listing}
-use Rattle.art.specs.Listings.{lookup}
+use Rattle.art.specs.Listings.{lookup, begun-with}
 use Rattle.art.specs.Drawings as drawn
 use Rattle.art.specs.Drawings.{Drawing}
 use Rattle.art.specs.Facts.{branchings}
@@ -19,18 +19,19 @@ use Rattle.whole.proofs.Samples.{two-sound}
 use Rattle.pointed.proofs.Points.{tag-bytes}
 use Rattle.demands.specs.Calls as calls
 use Rattle.demands.specs.Calls.{Query, query, search, minimum, edit, insert, delete, Slices, run}
-use Rattle.demands.specs.Told.{Told, only, withLeaf, withLength, withTag}
+use Rattle.demands.specs.Told.{Told, only, withCarries, withLeaf, withLength, withTag}
 use Rattle.reading.specs.Listing.{totals}
 use Rattle.demands.specs.Histories.{Block}
 use Rattle.demands.specs.Due as due
-use Rattle.demands.specs.Listed.{holds, finds}
+use Rattle.demands.specs.Listed.{holds, finds, adds}
 use Rattle.demands.specs.Ledger.{gives}
 use Rattle.demands.specs.Programs.{Seen, Program, seen, fresh, changed}
 use Rattle.demands.specs.Demands.{Numbers, Bare, Unchanged, Still, Scratched, Framed, Tagged, OnSound, AsList, Draws, Branches, Counts, EitherOrder, Restored}
 use Rattle.demands.proofs.Corollaries.{one-tree}
+use Rattle.demands.proofs.Demands.{demands}
 use Rattle.demands.proofs.Tested.{unchecked}
 use Rattle.instances.specs.Opened.{opened}
-use Rattle.instances.specs.Blocks.{nothing, bare, two, room, caps, lend, A, B, C}
+use Rattle.instances.specs.Blocks.{nothing, bare, two, carried, room, caps, lend, A, B, C}
 use Rattle.instances.proofs.Sounds.{bare-sound, spare-sound, bare-holds, spare-holds, two-holds}
 
 -- ── the programs ──
@@ -83,6 +84,10 @@ rover = port-but (λ q s. claimed (replied q s) (record { words = set (s .words)
 -- the call that gives a tag gives no byte of it
 abbrev nameless : Program
 nameless = port-but (λ q s. let o = replied q s in record { told = withLength (o .told .length) (withTag [] (o .told)); slices = s }) as-is as-is
+
+-- no answer has carries
+abbrev carryless : Program
+carryless c s = let o = port c s in record { told = withCarries 0 (o .told); slices = o .slices }
 
 -- an insert does nothing
 abbrev idle : Program
@@ -193,6 +198,14 @@ r = replicate 3 1
 -- whoever found a block sound, it holds as many tags
 as-many : {words keys : List ℕ} {m : Listing ℕ} → (y : Sound words keys) × (totals (holds y) ≡ m) → (z : Sound words keys) {l : Listing Held} → holds z ≡ l → length (totals l) ≡ length m
 as-many y z e = ap (λ (l : Listing Held). length (totals l)) (sym e ∙ ap held (one-tree z (y .0))) ∙ ap length (y .1)
+
+-- of two totals that add up to 2 ^ 64 the sum would be 0
+pub carryless-refuted : ¬ OnSound carryless
+unfolding opened
+carryless-refuted h =
+    let y = demands .as-list _ _ (changed (changed (fresh before 1 (caps 2) [] refl) (insert A 18446744073709551615) a-bytes r refl) (insert B 1) b-bytes r refl) in
+    let z : _≡_ {A = ℕ} 0 1 = ap (λ (a : Told). a .carries) (h (lend carried 3) (y .0) (calls.ask (calls.station-total [])) (tag-bytes [] refl) (λ e. omega arith)) ∙ ap (λ (l : Listing ℕ). adds (begun-with [] l) .carries) (y .1) in
+    omega arith
 
 -- nothing would be held, where A was accepted
 pub idle-refuted : ¬ AsList idle

@@ -6,6 +6,7 @@ mod Capacity
 mod Rows
 mod Ways
 mod Demands
+mod Stations
 mod Histories
 mod Uses
 mod Cheats

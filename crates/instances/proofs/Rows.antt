@@ -13,7 +13,7 @@ use Rattle.art.proofs.Clashes.{clash-clashes, free-unclashed}
 use Rattle.art.specs.Verdicts.{judge}
 use Rattle.pointed.proofs.Points.{tag-bytes}
 use Rattle.reading.specs.Answers.{Bytes}
-use Rattle.demands.specs.Calls.{Query, Slices, run, query, ask, edit, start, search, prefix-search, minimum, maximum, next-leaf, leaf-facts, leaf-tag, check, first-at-or-after, insert, delete}
+use Rattle.demands.specs.Calls.{Query, Slices, run, query, ask, edit, start, search, prefix-search, minimum, maximum, next-leaf, leaf-facts, leaf-tag, check, first-at-or-after, station-total, insert, delete}
 use Rattle.demands.specs.Told.{Told, only, toldBy, number}
 use Rattle.demands.specs.Listed.{holds, takes}
 use Rattle.demands.proofs.Numbers.{short-not}
@@ -133,6 +133,10 @@ scratched =
     ∷ line (ask (first-at-or-after A)) (lend broken 3) 6
     ∷ line (ask (first-at-or-after C)) (lend two 3) 1
     ∷ line (ask (first-at-or-after AB)) (lend two 3) 0
+    ∷ line (ask (station-total A)) (lend nothing 0) 6
+    ∷ line (ask (station-total A)) (lend two 2) 7
+    ∷ line (ask (station-total A)) (lend broken 3) 6
+    ∷ line (ask (station-total A)) (lend two 3) 0
     ∷ line (edit (delete A)) (lend nothing 0) 6
     ∷ line (edit (delete A)) (lend two 2) 7
     ∷ line (edit (delete A)) (lend broken 3) 6
@@ -152,6 +156,10 @@ scratched-due =
     then due.checked-unsound refl (broken-unsound .fits) (broken-unsound .room) (broken-unsound .not-sound)
     then listed-row (ask (first-at-or-after C)) (lend two 3) two-passed c (λ e. two-passed .room) refl
     then listed-row (ask (first-at-or-after AB)) (lend two 3) two-passed ab (λ e. two-passed .room) refl
+    then due.checked-unframed refl none-unframed
+    then due.checked-short refl (two-short .fits) (short-not (lend two 2) two-short)
+    then due.checked-unsound refl (broken-unsound .fits) (broken-unsound .room) (broken-unsound .not-sound)
+    then listed-row (ask (station-total A)) (lend two 3) two-passed a (λ e. two-passed .room) refl
     then due.checked-unframed refl none-unframed
     then due.checked-short refl (two-short .fits) (short-not (lend two 2) two-short)
     then due.checked-unsound refl (broken-unsound .fits) (broken-unsound .room) (broken-unsound .not-sound)
@@ -197,7 +205,7 @@ leaves-given : Given leaves
 leaves-given = dues-given leaves (tt then tt then tt then tt then tt then tt then tt then tt then tt then tt then tt then tt) leaves-due
 
 scratched-given : Given scratched
-scratched-given = dues-given scratched (tt then tt then tt then tt then a then a then a then c then ab then a then a then a then c then a then tt) scratched-due
+scratched-given = dues-given scratched (tt then tt then tt then tt then a then a then a then c then ab then a then a then a then a then a then a then a then c then a then tt) scratched-due
 
 inserts-given : Given inserts
 inserts-given = dues-given inserts (tag-bytes (replicate 65 65) refl then a then a then a then a then ab then c then b then c then tt) inserts-due

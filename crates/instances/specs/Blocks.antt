@@ -60,6 +60,14 @@ swapped =
     ++ trailer 31 12 12 1 0 2 1 13 5 2 47)
     (key 66 ++ key 65)
 
+-- A and B with totals that add up to 2 ^ 64
+abbrev pub carried : Block
+carried =
+    block
+    ((1 ∷ 2 ∷ 0 ∷ replicate 8 0) ++ (65 ∷ 66 ∷ 0 ∷ 0 ∷ 5 ∷ 13 ∷ 0 ∷ 0 ∷ []) ++ (1 ∷ 1 ∷ 0 ∷ 13 ∷ 4294967295 ∷ 4294967295 ∷ []) ++ leaf-at 5 0 1
+    ++ trailer 31 12 12 1 0 2 1 5 13 2 47)
+    (key 65 ++ key 66)
+
 -- its second leaf's previous is wrong
 abbrev pub broken : Block
 broken = block broken-words two-keys

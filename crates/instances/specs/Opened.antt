@@ -33,6 +33,8 @@ use Rattle.whole.specs.Visit.{leafVisit, turnAt, rowEnd, rowBy, recordBy}
 use Rattle.tree.specs.Seen.{tagAt}
 use Rattle.whole.specs.Witness.{goesOn, storedAgrees}
 use Rattle.range.specs.Range as range
+use Rattle.tally.specs.Tally.{addedOf}
+use Rattle.stations.specs.Stations.{startsSo, leafEntry, entryOf, tallyOne, tallyFrom, totalOf as stationOf}
 use Rattle.points.specs.Point as points
 use Rattle.writes.specs.At.{changeAt, prefixedAt, branchAt, moveAt, dropAt, clearAt}
 use Rattle.writes.specs.Leaf.{leafIn, keyIn, leafOut, keyOut, totalAt}
@@ -88,6 +90,11 @@ unfoldable pub points-opened : Unit {0}
 unfolding range.below range.leafStep range.stepOf range.afterFrom range.afterOf points.leafPoint points.runOf points.innerStep points.stepOf points.pointFrom points.pointOf
 points-opened = tt
 
+-- of tally and stations: station total
+unfoldable pub stations-opened : Unit {0}
+unfolding addedOf startsSo leafEntry entryOf tallyOne tallyFrom stationOf
+stations-opened = tt
+
 -- of writes: a record or a leaf written at its place
 unfoldable pub writes-opened : Unit {0}
 unfolding changeAt prefixedAt branchAt moveAt dropAt clearAt leafIn keyIn leafOut keyOut totalAt
@@ -100,5 +107,5 @@ calls-opened = tt
 
 -- all of them
 unfoldable pub opened : Unit {0}
-unfolding lists-opened art-opened frames-opened records-opened edits-opened pools-opened tree-opened whole-opened points-opened writes-opened calls-opened
+unfolding lists-opened art-opened frames-opened records-opened edits-opened pools-opened tree-opened whole-opened points-opened stations-opened writes-opened calls-opened
 opened = tt

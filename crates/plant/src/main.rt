@@ -2,7 +2,6 @@
 // what was asked and what came back. examples/plant.c and examples/plant.rs print the same.
 ghost use Rattle.plant.specs.Noted.{Noted};
 use directory_c::DirectoryChanged;
-use directory_c::DirectoryFound;
 
 // Memory for 8 tags, whatever they are: capacities 8, 2, 0, 0 and 8, so 8 × 19 + 2 × 43 + 8 × 6 + 16 words, 64 key bytes a tag, and a scratch byte a record.
 const TAGS: u32 = 8;
@@ -130,48 +129,16 @@ fn insert_all(words: &mut [u32; WORDS], keys: &mut [u8; KEYS]) {
     }
 }
 
-// The first tag at or after the name of a station.
-fn first_of(words: &[u32], keys: &[u8], name: &[u8]) -> DirectoryFound {
-    let mut scratch = [0u8; SCRATCH];
-    directory_c::directory_first_at_or_after(words, keys, &mut scratch, name)
-}
-
-// Whether a leaf was found, and its tag begins with the name of the station.
-fn is_of(words: &[u32], keys: &[u8], name: &[u8], a: DirectoryFound) -> bool {
-    if a.number != 0 {
-        return false;
-    }
-    let tag = directory_c::directory_leaf_tag(words, keys, a.leaf);
-    lists::compare::begins_bytes(name, text::part(keys, tag.start, tag.length))
-}
-
-// The sum, or the greatest number where it does not fit.
-fn sum_of(a: u64, b: u64) -> u64 {
-    if u64::MAX - a < b {
-        return u64::MAX;
-    }
-    a + b
-}
-
-// The pumps of a station and what they have pumped: from its first tag by next leaf, as long as the tags begin with its name.
+// The pumps of a station and what they have pumped, exactly.
 fn station(words: &[u32], keys: &[u8], name: &[u8]) {
-    let mut a = first_of(words, keys, name);
-    let mut pumps: u32 = 0;
-    let mut sum: u64 = 0;
-    while pumps < TAGS {
-        if !is_of(words, keys, name, a) {
-            break;
-        }
-        sum = sum_of(sum, a.total);
-        a = directory_c::directory_next_leaf(words, keys, a.leaf);
-        pumps += 1;
-    }
+    let mut scratch = [0u8; SCRATCH];
+    let a = directory_c::directory_station_total(words, keys, &mut scratch, name);
     text::fill(
-        b"station $: # pumps, total flow #\n",
+        b"station $: # pumps, total flow #, carries #\n",
         name,
-        pumps as u64,
-        sum,
-        0,
+        a.count as u64,
+        a.low,
+        a.carries,
     );
 }
 

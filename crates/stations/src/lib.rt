@@ -7,8 +7,8 @@ ghost use lib.ListN.{length};
 ghost use Rattle.lists.specs.Part.{between};
 ghost use Rattle.frames.specs.Kind.{leafSize};
 ghost use Rattle.frames.specs.Frame.{frameFits, FrameOf};
-ghost use Rattle.tally.specs.Tally.{Room};
-ghost use Rattle.stations.specs.Stations.{startsSo, leafEntry, entryOf, noEntry, tallyOne, tallyList, tallyOf, answer, totalOf};
+ghost use Rattle.tally.specs.Tally.{nothing};
+ghost use Rattle.stations.specs.Stations.{startsSo, leafEntry, entryOf, noEntry, tallyFrom, tallyList, tallyOf, answer, totalOf};
 use frames::frame;
 use frames::frame::Frame;
 use frames::kind::LEAF_WORDS;
@@ -107,13 +107,28 @@ fn entry_at(words: &[u32], keys: &[u8], f: Frame, beginning: &[u8], reference: u
     )
 }
 
-// A step of the clerk's: an entry that begins so is added to the tally.
-fn tallied(t: Tally, e: Entry) -> Tally
-    requires { ⌜ Room t ⌝ }
-    ensures { λ r. ⌜ r ≡ tallyOne t e ⌝ }
+// Along the leaf list from a reference on, so many leaves: the running tally is lent to each step, and changed where it stands.
+fn tally_from(
+    words: &[u32],
+    keys: &[u8],
+    f: Frame,
+    beginning: &[u8],
+    leaves: u32,
+    first: u32,
+) -> Tally
+    requires { ⌜ FrameOf f (now words) (now keys) ⌝ }
+    ensures { λ r. ⌜ r ≡ tallyFrom f (now (words .entry)) (now (keys .entry)) (now (beginning .entry)) leaves nothing first ⌝ }
 {
-    if e.counts {
-        return tally::counted(t, e.total);
+    let mut t = tally::nothing();
+    let mut left = leaves;
+    let mut reference = first;
+    while 0 < left {
+        let e = entry_at(words, keys, f, beginning, reference);
+        if e.counts {
+            tally::add(&mut t, e.total);
+        }
+        reference = e.next;
+        left -= 1;
     }
     t
 }
@@ -123,16 +138,9 @@ pub fn tally_list(words: &[u32], keys: &[u8], f: Frame, beginning: &[u8]) -> Tal
     requires { ⌜ FrameOf f (now words) (now keys) ⌝ }
     ensures { λ r. ⌜ r ≡ tallyList f (now (words .entry)) (now (keys .entry)) (now (beginning .entry)) ⌝ }
 {
-    let mut t = tally::nothing();
-    let mut left = frame::trailer_word(words, frame::TAGS);
-    let mut reference = frame::trailer_word(words, frame::FIRST);
-    while 0 < left {
-        let e = entry_at(words, keys, f, beginning, reference);
-        t = tallied(t, e);
-        reference = e.next;
-        left -= 1;
-    }
-    t
+    let left = frame::trailer_word(words, frame::TAGS);
+    let first = frame::trailer_word(words, frame::FIRST);
+    tally_from(words, keys, f, beginning, left, first)
 }
 
 // The pass, in slices that the frame fits.

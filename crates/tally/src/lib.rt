@@ -46,13 +46,3 @@ pub fn add(t: &mut Tally, total: u64)
 {
     *t = added(*t, total);
 }
-
-// A step of the clerk's: the running tally is lent to `add`, which changes it where it stands.
-pub fn counted(t: Tally, total: u64) -> Tally
-    requires { ⌜ Room t ⌝ }
-    ensures { λ r. ⌜ r ≡ addedOf t total ⌝ }
-{
-    let mut tally = t;
-    add(&mut tally, total);
-    tally
-}
