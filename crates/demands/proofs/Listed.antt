@@ -24,7 +24,7 @@ use Rattle.range.specs.declared.After.{After}
 use Rattle.stations.specs.Stations.{tallyIs, totalCheck}
 use Rattle.stations.specs.declared.Totalled.{Totalled}
 use Rattle.stations.specs.declared.Totalled.the-variants.{Sum}
-use Rattle.stations.proofs.Sums.{tally-shown}
+use Rattle.reading.proofs.Stations.{tally-shown}
 use Rattle.insert.specs.declared.answer.Inserted.{Inserted}
 use Rattle.delete.specs.Meets as delete-answers
 use Rattle.delete.specs.declared.answer.Deleted.{Deleted}
