@@ -1,4 +1,4 @@
-"""The directory in Python: its twelve calls on words, key bytes and scratch. bench/beside.py puts it beside the port.
+"""The directory in Python: its calls on words, key bytes and scratch, and the file that a block is saved to. bench/beside.py puts it beside the port.
 
 It is written from the rules (docs/BLOCK.md, docs/DECISIONS.md) and not from the port's code, and goes other ways wherever the rules leave the way open: a
 record is read into an object and written back whole; the check gathers the leaves below each record and compares all their tags; insert finds its place from
@@ -7,6 +7,7 @@ the sorted list of tags; the leaf list is written anew after every change.
 `words` is a list of ints below 2**32, `keys` and `scratch` are bytearrays, a tag is bytes. All are changed in place. A call gives a tuple that begins with the
 number of docs/BLOCK.md, or raises Refused with a number other than 0, and has then written nothing but the zeros that it leaves in scratch.
 """
+import struct
 from dataclasses import dataclass, field
 
 TRAILER = 16
@@ -17,6 +18,7 @@ STORED = 8
 HEAD = 3 + STORED
 LEAF = 5
 MOST_RECORDS = 4096
+LONGEST_FILE = 60000
 INNER_KINDS = (1, 2, 3, 4)
 CHILDREN = {1: 4, 2: 16, 3: 48, 4: 256}
 RECORD_WORDS = {1: 19, 2: 43, 3: 315, 4: 267, LEAF: 6}
@@ -425,6 +427,13 @@ def first_at_or_after(words, keys, scratch, tag):
     return 0, behind[0].number, behind[0].total
 
 
+def station_total(words, keys, scratch, beginning):
+    """How many tags begin so, and the sum of their totals as a low word and a count of carries."""
+    totals = [leaf.total for leaf in checked(words, keys, scratch).leaves if leaf.tag.startswith(beginning)]
+    carries, low = divmod(sum(totals), 2**64)
+    return 0, len(totals), low, carries
+
+
 def insert(words, keys, scratch, tag, total):
     demand(len(tag) <= TAG_ROOM, 2)
     block = checked(words, keys, scratch)
@@ -450,3 +459,19 @@ def delete(words, keys, scratch, tag):
     block.erase(LEAF, leaf.number)
     block.hold([other for other in block.leaves if other is not leaf])
     return 0, leaf.total
+
+
+# The file of a saved block
+
+
+def save(words, keys):
+    """The word count as four bytes, the words, the key bytes, all numbers lowest byte first."""
+    return struct.pack(f"<{1 + len(words)}I", len(words), *words) + bytes(keys)
+
+
+def opened(file):
+    """The words and key bytes of a saved block."""
+    demand(4 <= len(file) <= LONGEST_FILE, 6)
+    (count,) = struct.unpack_from("<I", file)
+    demand(4 + 4 * count <= len(file), 6)
+    return list(struct.unpack_from(f"<{count}I", file, 4)), bytearray(file[4 + 4 * count :])
