@@ -3,3 +3,4 @@ pub mod Rooms
 pub mod Files
 pub mod Cuts
 pub mod Sorted
+mod Samples
