@@ -34,15 +34,15 @@ returns : tie.Need-returns Inv-loop μ-loop
 returns c =
     let t = c .before .before .before in
     let e = c .before .enum-told .given .1 in
-    c .ended .ensures ∙ ap endedOf e ∙ sym (t .before .before .loop .inv ∙ after-end _ _ _ _ _ _ _ (t .before .loop-test .taken) (sym (t .step-at .ensures) ∙ e))
+    c .ended .ensures ∙ ap endedOf e ∙ sym (t .before .before .loop .inv ∙ after-end _ _ _ _ _ _ _ (omega arith) (sym (t .step-at .ensures) ∙ e))
 
 loop-again : tie.Need-loop-again Inv-loop μ-loop
 loop-again c =
     let t = c .before .before .before in
-    t .before .before .loop .inv ∙ after-next _ _ _ _ _ _ _ (t .before .loop-test .taken) (sym (t .step-at .ensures) ∙ c .before .s .given .1)
+    t .before .before .loop .inv ∙ after-next _ _ _ _ _ _ _ (omega arith) (sym (t .step-at .ensures) ∙ c .before .s .given .1)
 
 returns-2 : tie.Need-returns-2 Inv-loop μ-loop
-returns-2 c = sym (c .before .loop .inv ∙ after-over _ _ _ _ _ _ (c .loop-test .left))
+returns-2 c = sym (c .before .loop .inv ∙ after-over _ _ _ _ _ _ (omega arith))
 
 pub after-first-spec : {M : Type 1} → statement M
 after-first-spec =
