@@ -34,9 +34,9 @@ fn indirect_remove(body: &mut [u32], byte: usize)
     ensures { λ _. ⌜ now (body .exit) ≡ slotRemove (now (body .entry)) byte ⌝ }
 {
     let slot = num(body, byte);
-    let at = SLOT_ZERO + slot;
+    let hole = SLOT_ZERO + slot;
     body[byte] = 0;
-    body[at] = 0;
+    body[hole] = 0;
 }
 
 // Another reference for the child of a byte.
