@@ -10,6 +10,7 @@ use lib.Dec.{eqb}
 use Rattle.lists.specs.Scan.{choose}
 use Rattle.lists.specs.Part.{between}
 use Rattle.lists.proofs.Parts.{between-front}
+use Rattle.frames.specs.Kind.{leafSize}
 use Rattle.frames.specs.Frame.{FrameOf}
 use Rattle.frames.specs.Place.{placeAt, inPool, startAt, recordAt, keyAt}
 use Rattle.records.specs.Words.{usedAs, tagLength}
@@ -38,12 +39,12 @@ module _ (f : Frame) (words keys : List ℕ) (n : ℕ) where
   state-outside p = simp p
 
   -- by a number of the pool, the first word of its reference's place, and what the leaf there is used as
-  module _ {ref : ℕ} (r : ref ≡ n * 8 + 5) (h : n < getD (f .caps) 5 0) (start : ℕ) (s : start ≡ startAt f (placeAt ref)) {u : ℕ} (e : u ≡ usedAs (between words start (start + 6))) where
+  module _ {ref : ℕ} (r : ref ≡ n * 8 + 5) (h : n < getD (f .caps) 5 0) (start : ℕ) (s : start ≡ startAt f (placeAt ref)) {u : ℕ} (e : u ≡ usedAs (between words start (start + leafSize))) where
     begins : start ≡ startAt f (leaf-place n)
     begins = s ∙ ap (startAt f) (ref-leaf r)
 
     head : usedAs (recordAt f words (leaf-place n)) ≡ u
-    head = ap (λ (a : ℕ). usedAs (between words a (a + 6))) (sym begins) ∙ sym e
+    head = ap (λ (a : ℕ). usedAs (between words a (a + leafSize))) (sym begins) ∙ sym e
 
     pub state-free : u ≡ 0 → NoLeaf ≡ leafState f words keys n
     unfolding leafState
@@ -74,8 +75,8 @@ pub record GoodLeaf (f : Frame) (words keys : List ℕ) (n start : ℕ) : Type 0
 
 -- and its record
 pub good-record : {f : Frame} {words keys : List ℕ} {n start : ℕ} → GoodLeaf f words keys n start
-    → recordAt f words (leaf-place n) ≡ between words start (start + 6)
-good-record {words = words} g = ap (λ (a : ℕ). between words a (a + 6)) (sym (g .begins))
+    → recordAt f words (leaf-place n) ≡ between words start (start + leafSize)
+good-record {words = words} g = ap (λ (a : ℕ). between words a (a + leafSize)) (sym (g .begins))
 
 module _ {f : Frame} {words keys : List ℕ} (w : FrameOf f words keys) (n : ℕ) where
   pub good-leaf : (start : ℕ) → leafState f words keys n ≡ Good start → GoodLeaf f words keys n start
@@ -112,9 +113,9 @@ module _ (f : Frame) (words : List ℕ) (ref : ℕ) where
       pub next-outside : inPool f (placeAt ref) ≡ false → Damaged ≡ nextOf f words ref
       next-outside p = simp (ap (inPool f) (sym e) ∙ p) at (named (leaf-place n) e)
 
-      module _ (p : inPool f (placeAt ref) ≡ true) (start : ℕ) (s : start ≡ startAt f (placeAt ref)) {u : ℕ} (h : u ≡ usedAs (between words start (start + 6))) where
-        rec-is : recordAt f words (leaf-place n) ≡ between words start (start + 6)
-        rec-is = ap (λ (a : ℕ). between words a (a + 6)) (sym (s ∙ ap (startAt f) e))
+      module _ (p : inPool f (placeAt ref) ≡ true) (start : ℕ) (s : start ≡ startAt f (placeAt ref)) {u : ℕ} (h : u ≡ usedAs (between words start (start + leafSize))) where
+        rec-is : recordAt f words (leaf-place n) ≡ between words start (start + leafSize)
+        rec-is = ap (λ (a : ℕ). between words a (a + leafSize)) (sym (s ∙ ap (startAt f) e))
 
         next-head : usedAs (recordAt f words (leaf-place n)) ≡ u
         next-head = ap usedAs rec-is ∙ sym h
@@ -122,7 +123,7 @@ module _ (f : Frame) (words : List ℕ) (ref : ℕ) where
         pub next-unused : (u ≡ 1 → ⊥) → Damaged ≡ nextOf f words ref
         next-unused v = simp (ap (inPool f) (sym e) ∙ p, ne-eqb _ _ (λ q. v (sym next-head ∙ q))) at (named (leaf-place n) e)
 
-        pub next-found : u ≡ 1 → leafFound n (between words start (start + 6)) ≡ nextOf f words ref
+        pub next-found : u ≡ 1 → leafFound n (between words start (start + leafSize)) ≡ nextOf f words ref
         next-found v =
             ap (leafFound n) (sym rec-is) ∙ simp (ap (inPool f) (sym e) ∙ p, eq-eqb _ _ (next-head ∙ v)) at (named (leaf-place n) e)
 
@@ -139,7 +140,7 @@ module _ {f : Frame} {words keys : List ℕ} (w : FrameOf f words keys) (n : ℕ
       go : (s : LeafState) → leafState f words keys n ≡ s → 0 < lenFrom rec s → (lenFrom rec s ≤ f .form .limit) × (n * f .form .limit + f .form .limit ≤ length keys)
       go (Good start) e h =
           let g = good-leaf w n start e in
-          let r = leaf-rule (f .form .limit) (between words start (start + 6)) (keyAt f keys n) (g .there .fits .ok) in
+          let r = leaf-rule (f .form .limit) (between words start (start + leafSize)) (keyAt f keys n) (g .there .fits .ok) in
           (omega (arith, r .short, ap tagLength (good-record g)), g .there .bytes)
       go Broken e h = absurd (omega arith)
       go NoLeaf e h = absurd (omega arith)

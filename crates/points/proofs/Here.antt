@@ -9,6 +9,7 @@ use lib.Dec.{eqb}
 use borrow.Author.Tests.{eqb-true, ltb-true}
 use Rattle.lists.specs.Scan.{choose}
 use Rattle.lists.specs.Part.{between}
+use Rattle.frames.specs.Kind.{leafSize}
 use Rattle.frames.specs.Form.{recordWords}
 use Rattle.frames.specs.Frame.{FrameOf}
 use Rattle.frames.specs.Place.{placeAt, inPool, startAt, sizeAt, recordAt, kindAt}
@@ -60,5 +61,5 @@ module _ {f : Frame} {words keys : List ℕ} (w : FrameOf f words keys) (n : ℕ
     pub leaf-there : inPool f (placeAt ref) ≡ true
     leaf-there = ap (inPool f) leaf-names ∙ p
 
-    pub leaf-within : {start : ℕ} → start ≡ startAt f (placeAt ref) → start + 6 + 16 ≤ length words
+    pub leaf-within : {start : ℕ} → start ≡ startAt f (placeAt ref) → start + leafSize + 16 ≤ length words
     leaf-within s = omega (arith, s ∙ ap (startAt f) leaf-names, place-room w (leaf-place n) p)

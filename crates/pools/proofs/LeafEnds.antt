@@ -7,6 +7,7 @@ use mathlib.Core.Bool.{true}
 use native.Mathlib.Omega.{arith}
 use lib.ListN.{length}
 use Rattle.art.specs.Stores.{leaf-place}
+use Rattle.frames.specs.Kind.{leafSize}
 use Rattle.frames.specs.Frame.{FrameOf}
 use Rattle.frames.specs.Place.{placeAt, inPool, startAt}
 use Rattle.frames.specs.declared.frame.Frame.{Frame}
@@ -18,6 +19,6 @@ module _ {f : Frame} {words keys : List ℕ} (w : FrameOf f words keys) (ref : �
   leaf-in (inl e) = absurd (d e)
   leaf-in (inr (n, e, h)) = ap (λ (r : ℕ). inPool f (placeAt r)) e ∙ ap (inPool f) (place-leaf n) ∙ h
 
-  pub leaf-ends : LeafOrEnd f ref → startAt f (placeAt ref) + 6 + 16 ≤ length words
+  pub leaf-ends : LeafOrEnd f ref → startAt f (placeAt ref) + leafSize + 16 ≤ length words
   leaf-ends (inl e) = absurd (d e)
   leaf-ends (inr (n, e, h)) = omega (arith, place-room w (leaf-place n) h, ap (λ (r : ℕ). startAt f (placeAt r)) e ∙ ap (startAt f) (place-leaf n))

@@ -10,6 +10,7 @@ use borrow.Author.Tests.{lt-ltb, le-ltb, eq-eqb, ne-eqb}
 use Rattle.lists.specs.Scan.{choose}
 use Rattle.lists.specs.Compare.{less}
 use Rattle.lists.specs.Part.{between}
+use Rattle.frames.specs.Kind.{leafSize}
 use Rattle.frames.specs.Frame.{FrameOf}
 use Rattle.frames.specs.Place.{placeAt, inPool, startAt, keyAt}
 use Rattle.frames.specs.declared.frame.Frame.{Frame}
@@ -61,7 +62,7 @@ module _ (f : Frame) (words keys tag : List ℕ) (ref : ℕ) where
 
   module _ (k : ref % 8 ≡ 5) where
     abbrev leaf : Step
-    leaf = leafStep (between words (startAt f (leaf-place (ref / 8))) (startAt f (leaf-place (ref / 8)) + 6)) (keyAt f keys (ref / 8)) tag (ref / 8)
+    leaf = leafStep (between words (startAt f (leaf-place (ref / 8))) (startAt f (leaf-place (ref / 8)) + leafSize)) (keyAt f keys (ref / 8)) tag (ref / 8)
 
     leaf-by : {b : Bool} → inPool f (placeAt ref) ≡ b → choose b leaf (Final Damaged) ≡ stepOf f words keys tag ref
     leaf-by p =
@@ -71,10 +72,10 @@ module _ (f : Frame) (words keys tag : List ℕ) (ref : ℕ) where
     step-outside p = leaf-by p
 
     pub step-leaf : {start : ℕ} {s : Step} → inPool f (placeAt ref) ≡ true → start ≡ startAt f (placeAt ref)
-        → s ≡ leafStep (between words start (start + 6)) (keyAt f keys (ref / 8)) tag (ref / 8) → s ≡ stepOf f words keys tag ref
+        → s ≡ leafStep (between words start (start + leafSize)) (keyAt f keys (ref / 8)) tag (ref / 8) → s ≡ stepOf f words keys tag ref
     step-leaf p e h =
         h
-        ∙ ap (λ (a : ℕ). leafStep (between words a (a + 6)) (keyAt f keys (ref / 8)) tag (ref / 8)) (e ∙ ap (startAt f) (leaf-named ref k))
+        ∙ ap (λ (a : ℕ). leafStep (between words a (a + leafSize)) (keyAt f keys (ref / 8)) tag (ref / 8)) (e ∙ ap (startAt f) (leaf-named ref k))
         ∙ leaf-by p
 
 -- ── from a reference on ──

@@ -10,6 +10,7 @@ use borrow.Author.Tests.{eq-eqb, ne-eqb, lt-ltb, le-ltb}
 use Rattle.lists.specs.Scan.{choose}
 use Rattle.lists.specs.Part.{between}
 use Rattle.lists.proofs.Tests.{both}
+use Rattle.frames.specs.Kind.{leafSize}
 use Rattle.frames.specs.Form.{recordWords}
 use Rattle.frames.specs.Frame.{rootWord, frameFits, FrameOf}
 use Rattle.records.specs.Own.{innerOk, leafOk}
@@ -44,17 +45,17 @@ inner-named ref e = ap (λ (b : Bool). choose b (leaf-place (ref / 8)) (inner-pl
 module _ {f : Frame} {words keys : List ℕ} (w : FrameOf f words keys) where
   -- a leaf, by its place and first word
   module _ (x : Place) (n start : ℕ) (e : x ≡ leaf-place n) (s : start ≡ startAt f x) (p : inPool f x ≡ true) where
-    pub leaf-in : (start + 6 ≤ length words) × (n * f .form .limit + f .form .limit ≤ length keys)
+    pub leaf-in : (start + leafSize ≤ length words) × (n * f .form .limit + f .form .limit ≤ length keys)
     leaf-in =
         let q : inPool f (leaf-place n) ≡ true = ap (inPool f) (sym e) ∙ p in
         let r = place-room w (leaf-place n) q in
         let t : start ≡ startAt f (leaf-place n) = s ∙ ap (startAt f) e in
         (omega arith, leaf-room w n q)
 
-    pub rule-leaf : {r : Bool} → r ≡ leafOk (f .form .limit) (between words start (start + 6)) (keyAt f keys n) → r ≡ ruleAt f words keys x
+    pub rule-leaf : {r : Bool} → r ≡ leafOk (f .form .limit) (between words start (start + leafSize)) (keyAt f keys n) → r ≡ ruleAt f words keys x
     rule-leaf told =
         told
-        ∙ ap (λ (a : ℕ). leafOk (f .form .limit) (between words a (a + 6)) (keyAt f keys n)) (s ∙ ap (startAt f) e)
+        ∙ ap (λ (a : ℕ). leafOk (f .form .limit) (between words a (a + leafSize)) (keyAt f keys n)) (s ∙ ap (startAt f) e)
         ∙ sym (ap (ruleAt f words keys) e)
 
     pub leaf-stands : ruleAt f words keys x ≡ true → LeafThere (f .form .limit) words keys n start
@@ -66,7 +67,7 @@ module _ {f : Frame} {words keys : List ℕ} (w : FrameOf f words keys) where
           bytes = leaf-in .1;
           fits =
               record {
-                long = subst (λ (a : ℕ). length (between words a (a + 6)) ≡ 6) t (record-length w (leaf-place n) q);
+                long = subst (λ (a : ℕ). length (between words a (a + leafSize)) ≡ 6) t (record-length w (leaf-place n) q);
                 wide = key-length w n q;
                 ok = rule-leaf refl ∙ r;
               };

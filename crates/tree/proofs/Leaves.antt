@@ -11,6 +11,7 @@ use Rattle.lists.specs.Scan.{choose}
 use Rattle.lists.specs.Part.{between}
 use Rattle.lists.proofs.Tests.{both}
 use Rattle.lists.proofs.Parts.{between-front}
+use Rattle.frames.specs.Kind.{leafSize}
 use Rattle.frames.specs.Frame.{FrameOf}
 use Rattle.frames.specs.Place.{placeAt, inPool, startAt, recordAt, keyAt}
 use Rattle.frames.specs.declared.frame.Frame.{Frame}
@@ -34,13 +35,13 @@ module _ {f : Frame} {words keys : List ℕ} (w : FrameOf f words keys) {ref : �
   seen-bytes = leaf-in w (leaf-place (ref / 8)) (ref / 8) (startAt f (leaf-place (ref / 8))) refl refl (l .pool) .1
 
   module _ (start : ℕ) (s : start ≡ startAt f (placeAt ref)) where
-    pub seen-room : start + 6 ≤ length words
+    pub seen-room : start + leafSize ≤ length words
     seen-room = leaf-in w (placeAt ref) (ref / 8) start (leaf-named ref (l .kind)) s (seen-pool l) .0
 
-    pub seen-length : (n : ℕ) → n ≡ tagLength (between words start (start + 6)) → (n ≡ lengthAt f words ref) × (n ≤ f .form .limit)
+    pub seen-length : (n : ℕ) → n ≡ tagLength (between words start (start + leafSize)) → (n ≡ lengthAt f words ref) × (n ≤ f .form .limit)
     seen-length n e =
         let q : start ≡ startAt f (leaf-place (ref / 8)) = s ∙ ap (startAt f) (leaf-named ref (l .kind)) in
-        let t : n ≡ lengthAt f words ref = e ∙ ap (λ (b : ℕ). tagLength (between words b (b + 6))) q in
+        let t : n ≡ lengthAt f words ref = e ∙ ap (λ (b : ℕ). tagLength (between words b (b + leafSize))) q in
         (t, omega (arith, leaf-rule (f .form .limit) (recordAt f words (leaf-place (ref / 8))) (keyAt f keys (ref / 8)) (l .rule) .short))
 
 pub seen-tag : (f : Frame) (words keys : List ℕ) (ref n : ℕ) → n ≡ lengthAt f words ref → n ≤ f .form .limit

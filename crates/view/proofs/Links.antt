@@ -11,6 +11,7 @@ use borrow.Author.Tests.{eq-eqb, ne-eqb, lt-leb}
 use Rattle.lists.specs.Scan.{choose, allPass, atMost}
 use Rattle.lists.proofs.Tests.{all-fails}
 use Rattle.lists.proofs.Parts.{splice-set}
+use Rattle.frames.specs.Kind.{leafSize}
 use Rattle.frames.specs.Frame.{FrameOf}
 use Rattle.records.specs.Own.{leafOk, totalOf}
 use Rattle.frames.specs.Place.{placeAt, inPool, startAt, recordAt, keyAt, putAt}
@@ -52,7 +53,7 @@ module _ {f : Frame} {words keys : List ℕ} {t i : ℕ} (w : FrameOf f words ke
   link-put ref n e =
       ap (λ (b : Bool). choose b (setTrailer t v words) (set words (startAt f (placeAt ref) + i) v)) (ne-eqb ref 0 (λ z. omega arith))
       ∙ ap (λ (x : Place). set words (startAt f x + i) v) (ap placeAt e ∙ place-leaf n)
-      ∙ sym (splice-set words (startAt f (leaf-place n)) (startAt f (leaf-place n) + 6) i v (omega arith))
+      ∙ sym (splice-set words (startAt f (leaf-place n)) (startAt f (leaf-place n) + leafSize) i v (omega arith))
 
   pub link-long : (n : ℕ) → inPool f (leaf-place n) ≡ true → length (set (recordAt f words (leaf-place n)) i v) ≡ 6
   link-long n hn = length-set (recordAt f words (leaf-place n)) i v ∙ record-length w (leaf-place n) hn

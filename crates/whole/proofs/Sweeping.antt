@@ -12,6 +12,7 @@ use borrow.Author.Tests.{lt-ltb}
 use Rattle.lists.specs.Scan.{choose, allPass, atMost}
 use Rattle.lists.specs.Part.{between}
 use Rattle.lists.proofs.Tests.{both, and-both}
+use Rattle.frames.specs.Kind.{leafSize}
 use Rattle.frames.specs.Form.{recordWords}
 use Rattle.frames.specs.Frame.{FrameOf}
 use Rattle.frames.specs.Place.{placeAt, inPool, startAt, keyAt}
@@ -34,14 +35,14 @@ pub record RecordHere (f : Frame) (words keys : List ℕ) (ref start : ℕ) : Ty
 module _ {f : Frame} {words keys : List ℕ} {ref start : ℕ} (h : RecordHere f words keys ref start) where
   -- a leaf: its words and its key bytes lie within the slices, and it is blank where they are 0
   module _ (k : ref % 8 ≡ 5) where
-    pub leaf-within : (start + 6 ≤ length words) × (ref / 8 * f .form .limit + f .form .limit ≤ length keys)
+    pub leaf-within : (start + leafSize ≤ length words) × (ref / 8 * f .form .limit + f .form .limit ≤ length keys)
     leaf-within = leaf-in (h .frame) (placeAt ref) (ref / 8) start (leaf-named ref k) (h .first) (h .pool)
 
-    pub blank-leaf : {a b : Bool} → a ≡ allPass (atMost 0) (between words start (start + 6)) → b ≡ allPass (atMost 0) (keyAt f keys (ref / 8)) → a && b ≡ blankAt f words keys (placeAt ref)
+    pub blank-leaf : {a b : Bool} → a ≡ allPass (atMost 0) (between words start (start + leafSize)) → b ≡ allPass (atMost 0) (keyAt f keys (ref / 8)) → a && b ≡ blankAt f words keys (placeAt ref)
     blank-leaf {a} {b} p q =
         ap (λ (t : Bool). t && b) p
-        ∙ ap (λ (t : Bool). allPass (atMost 0) (between words start (start + 6)) && t) q
-        ∙ ap (λ (i : ℕ). allPass (atMost 0) (between words i (i + 6)) && allPass (atMost 0) (keyAt f keys (ref / 8))) (h .first ∙ ap (startAt f) (leaf-named ref k))
+        ∙ ap (λ (t : Bool). allPass (atMost 0) (between words start (start + leafSize)) && t) q
+        ∙ ap (λ (i : ℕ). allPass (atMost 0) (between words i (i + leafSize)) && allPass (atMost 0) (keyAt f keys (ref / 8))) (h .first ∙ ap (startAt f) (leaf-named ref k))
         ∙ ap (blankAt f words keys) (sym (leaf-named ref k))
 
   -- an inner record: its kind is one of the table's, its words lie within the slice, and it is blank where they are 0

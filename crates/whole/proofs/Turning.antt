@@ -11,6 +11,7 @@ use borrow.Author.Tests.{eqb-false, leb-true, leb-false, ltb-true, le-leb, lt-le
 use Rattle.lists.specs.Scan.{choose, howMany, nonzero}
 use Rattle.lists.specs.Part.{between}
 use Rattle.lists.proofs.Tests.{both}
+use Rattle.frames.specs.Kind.{leafSize}
 use Rattle.frames.specs.Frame.{FrameOf}
 use Rattle.frames.specs.Place.{placeAt, inPool}
 use Rattle.frames.specs.declared.frame.Frame.{Frame}
@@ -291,7 +292,7 @@ module _ (f : Frame) (words keys : List ℕ) where
           → Kept (afterTurn f words keys check depth (choose b (turnOf f words ref depth s a) (Done Ill)) (reached f ref m) .marks)
           (afterTurn f words keys check depth (choose b (turnOf f words ref depth s a) (Done Ill)) (reached f ref m) .visit)
       go false e a q = (tt, tt)
-      go true e (Leaf n start) q = leaf-kept left ref (between words start (start + 6)) m s n start q e c
+      go true e (Leaf n start) q = leaf-kept left ref (between words start (start + leafSize)) m s n start q e c
       go true e (Inner kind start) q =
           let row : Row = record { kind = kind; start = start; depth = depth + getD (innerRec (f .form) words kind start) 2 0 } in
           end-kept row depth (check row (reached f ref m) .marks) (check row (reached f ref m) .visit) (k row)

@@ -7,6 +7,7 @@ use lib.Dec.{eqb}
 use borrow.Author.Tests.{eq-eqb, ne-eqb, eqb-false}
 use Rattle.lists.specs.Scan.{choose}
 use Rattle.lists.specs.Part.{between}
+use Rattle.frames.specs.Kind.{leafSize}
 use Rattle.frames.specs.declared.frame.Frame.{Frame}
 use Rattle.records.specs.Words.{fullLength, previousLeaf, nextLeaf}
 use Rattle.records.specs.Own.{prefixAt}
@@ -104,7 +105,7 @@ module _ (rec : List ℕ) (ref : ℕ) (s : Seen) {prev next : ℕ} (p : prev ≡
 
 -- ── what is to be done ──
 module _ (f : Frame) (words : List ℕ) (ref depth : ℕ) (s : Seen) {a : Arrival} where
-  pub turn-leaf : {n start : ℕ} {v : Visit} → a ≡ Leaf n start → v ≡ leafVisit (between words start (start + 6)) ref s → Done v ≡ turnOf f words ref depth s a
+  pub turn-leaf : {n start : ℕ} {v : Visit} → a ≡ Leaf n start → v ≡ leafVisit (between words start (start + leafSize)) ref s → Done v ≡ turnOf f words ref depth s a
   turn-leaf e h = ap Done h ∙ ap (turnOf f words ref depth s) (sym e)
 
   pub turn-inner : {kind start n : ℕ} → a ≡ Inner kind start → n ≡ fullLength (innerRec (f .form) words kind start)

@@ -5,6 +5,7 @@ use native.Mathlib.Omega.{arith}
 use lib.ListN.{length}
 use borrow.Author.Needs.{needs}
 use Rattle.lists.specs.Part.{between}
+use Rattle.frames.specs.Kind.{leafSize}
 use Rattle.frames.specs.Place.{startAt}
 use Rattle.frames.proofs.Frames.{framed}
 use Rattle.frames.proofs.Places.{record-length}
@@ -43,7 +44,7 @@ returns c =
     let t = c .before in
     let s = t .before .before .before .before in
     let a = s .args in
-    let e = ap (λ (i : ℕ). between (a .words .now) i (i + 6)) (t .start-at .ensures ∙ ap (startAt (a .f)) (leaf-names (s .pre .0) (a .n) (s .pre .1) (t .before .reference-to .ensures))) in
+    let e = ap (λ (i : ℕ). between (a .words .now) i (i + leafSize)) (t .start-at .ensures ∙ ap (startAt (a .f)) (leaf-names (s .pre .0) (a .n) (s .pre .1) (t .before .reference-to .ensures))) in
     (e, ap length e ∙ record-length (s .pre .0) (leaf-place (a .n)) (s .pre .1))
 
 pub leaf-at-spec : {M : Type 1} → statement M

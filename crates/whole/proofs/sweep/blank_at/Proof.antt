@@ -2,6 +2,7 @@
 use Prim.Native.Nat.{_+_, _*_, _/_, _%_, _≤_}
 use native.Mathlib.Omega.{arith}
 use lib.ListN.{length}
+use Rattle.frames.specs.Kind.{leafSize}
 use Rattle.frames.specs.Form.{recordWords}
 use Rattle.frames.proofs.Frames.{framed}
 use Rattle.whole.proofs.Sweeping.{RecordHere, leaf-within, inner-within, blank-leaf, blank-inner}
@@ -19,7 +20,7 @@ here c = record { frame = to-entry c .pre .0; pool = to-entry c .pre .1; first =
 
 -- what lies within the slices, where the reference is a leaf's, and where it is not
 leaf-here : (c : tie.Then1) → let a = to-entry (c .before) .args in
-    (c .before .start-at .result + 6 ≤ length (a .words .now)) × (a .reference / 8 * a .f .form .limit + a .f .form .limit ≤ length (a .keys .now))
+    (c .before .start-at .result + leafSize ≤ length (a .words .now)) × (a .reference / 8 * a .f .form .limit + a .f .form .limit ≤ length (a .keys .now))
 leaf-here c = leaf-within (here (c .before)) (c .if1 .taken)
 
 inner-here : (c : tie.Else1) → let a = to-entry (c .before) .args in

@@ -2,6 +2,7 @@
 use Prim.Native.Nat.{_+_}
 use mathlib.Core.Path.{ap, _∙_}
 use lib.ListN.{length, replicate}
+use Rattle.frames.specs.Kind.{leafSize}
 use Rattle.frames.specs.Place.{putAt}
 use Rattle.frames.proofs.Places.{record-length}
 use Rattle.writes.proofs.Spots.{part-record, part-put}
@@ -21,8 +22,8 @@ returns c =
     let words = s .args .words .now in
     let x = leaf-place (s .args .n) in
     let start = b4 .leaf-start .ensures .0 in
-    part-put f words x start (ap (λ a. a + 6) start) (b2 .clear .last .0)
-    ∙ ap (putAt f words x) (b2 .clear .ensures ∙ ap (λ l. replicate (length l) 0) (part-record f words x start (ap (λ a. a + 6) start)) ∙ ap (λ n. replicate n 0) (record-length (s .pre .0) x (s .pre .1)))
+    part-put f words x start (ap (λ a. a + leafSize) start) (b2 .clear .last .0)
+    ∙ ap (putAt f words x) (b2 .clear .ensures ∙ ap (λ l. replicate (length l) 0) (part-record f words x start (ap (λ a. a + leafSize) start)) ∙ ap (λ n. replicate n 0) (record-length (s .pre .0) x (s .pre .1)))
 
 pub clear-at-spec : {M : Type 1} → statement M
 clear-at-spec =

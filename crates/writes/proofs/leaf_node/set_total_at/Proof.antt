@@ -1,6 +1,7 @@
 -- `leaf_node::set_total_at` meets its contract: the leaf is a part of the words.
 use Prim.Native.Nat.{_+_}
 use mathlib.Core.Path.{ap, _∙_}
+use Rattle.frames.specs.Kind.{leafSize}
 use Rattle.frames.specs.Place.{putAt}
 use Rattle.pools.specs.Leaf.{setTotal}
 use Rattle.writes.specs.Leaf.{totalAt}
@@ -21,8 +22,8 @@ returns c =
     let words = s .args .words .now in
     let x = leaf-place (s .args .n) in
     let start = b4 .leaf-start .ensures .0 in
-    part-put f words x start (ap (λ a. a + 6) start) (b2 .set-total .last .0)
-    ∙ ap (putAt f words x) (b2 .set-total .ensures ∙ ap (setTotal (s .args .total)) (part-record f words x start (ap (λ a. a + 6) start)))
+    part-put f words x start (ap (λ a. a + leafSize) start) (b2 .set-total .last .0)
+    ∙ ap (putAt f words x) (b2 .set-total .ensures ∙ ap (setTotal (s .args .total)) (part-record f words x start (ap (λ a. a + leafSize) start)))
 
 pub set-total-at-spec : {M : Type 1} → statement M
 set-total-at-spec =

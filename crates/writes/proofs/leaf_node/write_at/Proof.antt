@@ -1,6 +1,7 @@
 -- `leaf_node::write_at` meets its contract: the leaf is a part of the words.
 use Prim.Native.Nat.{_+_}
 use mathlib.Core.Path.{ap, _∙_}
+use Rattle.frames.specs.Kind.{leafSize}
 use Rattle.frames.specs.Place.{putAt}
 use Rattle.writes.proofs.Spots.{part-put}
 use Rattle.lists.specs.Part.{splice}
@@ -19,7 +20,7 @@ returns c =
     let words = s .args .words .now in
     let x = leaf-place (s .args .n) in
     let start = b4 .leaf-start .ensures .0 in
-    part-put f words x start (ap (λ a. a + 6) start) (b2 .write-leaf .last .0)
+    part-put f words x start (ap (λ a. a + leafSize) start) (b2 .write-leaf .last .0)
     ∙ ap (putAt f words x) (b2 .write-leaf .ensures)
 
 pub write-at-spec : {M : Type 1} → statement M
