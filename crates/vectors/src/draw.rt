@@ -61,7 +61,7 @@ fn in_use(words: &[u32], keys: &[u8], kind: u32) -> u64
     let mut n: u64 = 0;
     let mut i: u32 = 0;
     while i < room {
-        n = n + is_used(words, keys, 8 * i + kind);
+        n = n + is_used(words, keys, frame::reference_to(kind, i as usize));
         i += 1;
     }
     n
@@ -126,7 +126,7 @@ fn places(kind: u32) -> u32 {
     if kind <= 2 {
         return children(kind);
     }
-    256
+    kind::BYTES as u32
 }
 
 // The reference in a slot of kind 3, which are numbered from 1 and stand after a number for each byte.
@@ -134,7 +134,7 @@ fn in_slot(words: &[u32], at: usize, slot: u32) -> u32 {
     if slot == 0 {
         return 0;
     }
-    word(words, at, body() + 255 + slot as usize)
+    word(words, at, body() + kind::SLOT_ZERO + slot as usize)
 }
 
 // The reference to the child at place i of a record, 0 for none.
