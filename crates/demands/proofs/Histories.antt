@@ -21,7 +21,7 @@ use Rattle.demands.specs.Story.{Story}
 use Rattle.demands.specs.Ledger.{Ledger, ledger, accepted}
 use Rattle.demands.specs.Programs as programs
 use Rattle.demands.specs.Programs.{Program, seen, numberBy, nextBy, Reached}
-use Rattle.demands.proofs.Reading.{sound-reads}
+use Rattle.demands.proofs.Reading.{reading-meets}
 use Rattle.demands.proofs.Listed.{listed-by}
 use Rattle.demands.proofs.Totals.{totals-length}
 use Rattle.demands.proofs.Drawings.{drawing-held}
@@ -66,7 +66,7 @@ history {b} {k} y =
       sound = s;
       bytes = x .bytes;
       totals-are = x .list;
-      reads = sound-reads s;
+      reads = reading-meets s;
       listed = λ c h r. listed-by (lent b r) s c h;
       draws = drawing-held s ∙ ap draw (x .list);
       inner = used-inner-drawn s ∙ ap (λ (l : Listing ℕ). branchings (draw l)) (x .list);

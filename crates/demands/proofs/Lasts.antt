@@ -19,7 +19,7 @@ use Rattle.demands.specs.Histories.{Block, lent, tagOf}
 use Rattle.demands.specs.Listed.{holds, finds}
 use Rattle.demands.specs.Programs.{Program, seen, tells, nextBy, AcceptedBy}
 use Rattle.demands.specs.Demands.{OnSound}
-use Rattle.demands.proofs.Reading.{sound-reads}
+use Rattle.demands.proofs.Reading.{reading-meets}
 use Rattle.demands.proofs.Demands.{demands}
 use Rattle.demands.proofs.Totals.{total-of, totals-lookup}
 use Rattle.demands.proofs.Tested.{unchecked}
@@ -56,7 +56,7 @@ pub others-kept : (b : Block) → Bytes (b .keys) → (e : Edit) (scratch : List
     → tells (seen run) (nextBy (seen run) b (edit e) scratch) (query (search t)) q ≡ tells (seen run) b (query (search t)) r
 others-kept b k e scratch h t bytes ne q r =
     ap (λ a. toldBy (found a)) (edit-either e (lent b scratch) h k (λ words keys. searchOf words keys t ≡ searchOf (b .words) (b .keys) t) refl
-    (λ z w j c. sound-reads (c .after) .search t bytes ∙ ap answerOf (c .others t ne) ∙ sym (sound-reads z .search t bytes)))
+    (λ z w j c. reading-meets (c .after) .search t bytes ∙ ap answerOf (c .others t ne) ∙ sym (reading-meets z .search t bytes)))
 
 -- ── on any memory: an accepted insert is found with its total, an accepted delete is not found ──
 module _ (b : Block) (k : Bytes (b .keys)) (e : Edit) (h : Bytes (tagOf e)) (q : List ℕ) (a : AcceptedBy (seen run) b e q) where

@@ -35,7 +35,7 @@ use Rattle.demands.specs.Told.{Told, toldBy}
 use Rattle.demands.specs.Histories.{CallBytes}
 use Rattle.demands.specs.Tests.{Passed}
 use Rattle.demands.specs.Listed.{holds, Suffices, finds, takes, Listed}
-use Rattle.demands.proofs.Reading.{sound-reads}
+use Rattle.demands.proofs.Reading.{reading-meets}
 use Rattle.demands.proofs.Tested.{check-passed, insert-too-long}
 use Rattle.demands.proofs.Inserted.{inserts-listed}
 
@@ -79,16 +79,16 @@ tag b = toldBy (calls.tag b)
 pub listed-by : (s : Slices) (z : Sound (s .words) (s .keys)) (c : Call) → CallBytes c → Suffices c s → Listed z c (toldBy (run c s .answer))
 unfolding afterOf
 listed-by s z (calls.start form c) b r = tt
-listed-by s z (calls.query (calls.search t)) b r = ap found (sound-reads z .search t b) ∙ found-told (lookup t (holds z))
-listed-by s z (calls.query (calls.prefix-search t)) b r = ap found (sound-reads z .prefix-search t b) ∙ found-told (lookup-begun t (holds z))
-listed-by s z (calls.query calls.minimum) b r = ap found (sound-reads z .minimum) ∙ found-told (first-of (holds z))
-listed-by s z (calls.query calls.maximum) b r = ap found (sound-reads z .maximum) ∙ found-told (last-of (holds z))
+listed-by s z (calls.query (calls.search t)) b r = ap found (reading-meets z .search t b) ∙ found-told (lookup t (holds z))
+listed-by s z (calls.query (calls.prefix-search t)) b r = ap found (reading-meets z .prefix-search t b) ∙ found-told (lookup-begun t (holds z))
+listed-by s z (calls.query calls.minimum) b r = ap found (reading-meets z .minimum) ∙ found-told (first-of (holds z))
+listed-by s z (calls.query calls.maximum) b r = ap found (reading-meets z .maximum) ∙ found-told (last-of (holds z))
 listed-by s z (calls.query (calls.next-leaf n)) b r =
-    (λ front e rest i j. ap (λ (m : ℕ). found (nextLeafOf (s .words) (s .keys) m)) (sym j) ∙ ap found (sound-reads z .next-leaf front e rest i) ∙ found-told (first-of rest), λ h. ap found (sound-reads z .next-free n h))
+    (λ front e rest i j. ap (λ (m : ℕ). found (nextLeafOf (s .words) (s .keys) m)) (sym j) ∙ ap found (reading-meets z .next-leaf front e rest i) ∙ found-told (first-of rest), λ h. ap found (reading-meets z .next-free n h))
 listed-by s z (calls.query (calls.leaf-facts n)) b r =
-    (λ e i j. ap (λ (m : ℕ). facts (factsOf (s .words) (s .keys) m)) (sym j) ∙ ap facts (sound-reads z .leaf-facts e i), λ h. ap facts (sound-reads z .facts-free n h))
+    (λ e i j. ap (λ (m : ℕ). facts (factsOf (s .words) (s .keys) m)) (sym j) ∙ ap facts (reading-meets z .leaf-facts e i), λ h. ap facts (reading-meets z .facts-free n h))
 listed-by s z (calls.query (calls.leaf-tag n)) b r =
-    (λ e i j. ap (λ (m : ℕ). tag (tagOf (s .words) (s .keys) m)) (sym j) ∙ ap tag (sound-reads z .leaf-tag e i), λ h. ap tag (sound-reads z .tag-free n h))
+    (λ e i j. ap (λ (m : ℕ). tag (tagOf (s .words) (s .keys) m)) (sym j) ∙ ap tag (reading-meets z .leaf-tag e i), λ h. ap tag (reading-meets z .tag-free n h))
 listed-by s z (calls.ask calls.check) b r = ap (λ (a : Checked). toldBy (calls.checked a)) (check-passed s (record { room = r refl; sound = z }))
 listed-by s z (calls.ask (calls.first-at-or-after t)) b r = ap (λ (a : After). toldBy (calls.after a)) (after-meets s t (record { room = r refl; sound = z })) ∙ after-told (after t (holds z))
 listed-by s z (calls.ask (calls.station-total t)) b r = ap (λ (a : Totalled). toldBy (calls.totalled a)) (station-meets s t (record { room = r refl; sound = z }))

@@ -8,5 +8,5 @@ use Rattle.whole.specs.Sound.{Sound}
 use Rattle.pointed.proofs.Sounds.{sound-shown}
 
 -- what the calls' definitions say of it
-pub sound-reads : {words keys : List ℕ} (s : Sound words keys) → Reads words keys (held (s .tree))
-sound-reads s = reads-shown (sound-shown s)
+pub reading-meets : {words keys : List ℕ} (s : Sound words keys) → Reads words keys (held (s .tree))
+reading-meets s = reads-shown (sound-shown s)

@@ -19,7 +19,7 @@ use Rattle.range.specs.Range.{afterIs, afterOf}
 use Rattle.demands.specs.Calls.{Slices}
 use Rattle.demands.specs.Tests.{Passed}
 use Rattle.demands.specs.Listed.{holds}
-use Rattle.demands.proofs.Reading.{sound-reads}
+use Rattle.demands.proofs.Reading.{reading-meets}
 use Rattle.demands.proofs.Listed.{after-meets}
 use Rattle.demands.specs.Later.{later, foundIs}
 
@@ -62,4 +62,4 @@ walk-after s t p most h =
     let l = holds (p .sound) in
     let z = later-end t l in
     ap (listFrom (s .words) (s .keys) most) (ap foundIs (after-meets s t p) ∙ found-is (after t l) ∙ ap answerOf (later-first t l))
-    ∙ list-from (sound-reads (p .sound)) most (z .0) (later t l) (z .1) h
+    ∙ list-from (reading-meets (p .sound)) most (z .0) (later t l) (z .1) h

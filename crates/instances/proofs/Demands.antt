@@ -38,7 +38,7 @@ use Rattle.demands.specs.Ledger.{ledger}
 use Rattle.demands.specs.Programs.{seen}
 use Rattle.demands.specs.Demands.{Demands}
 use Rattle.demands.specs.Listed.{holds, finds, takes, InsertsListed}
-use Rattle.demands.proofs.Reading.{sound-reads}
+use Rattle.demands.proofs.Reading.{reading-meets}
 use Rattle.demands.proofs.Drawings.{drawing-held}
 use Rattle.demands.proofs.Outcomes.{one-outcome, promised}
 use Rattle.demands.specs.Frames.{FrameKept}
@@ -125,7 +125,7 @@ put-frame = demands .framed (edit (insert C 9)) (λ form k e. let z : _≡_ {A =
 
 -- ── as a sorted list ──
 two-reads : Reads two-words two-keys (entry A 0 7 ∷ entry B 1 8 ∷ [])
-two-reads = subst (Reads two-words two-keys) two-holds (sound-reads two-sound)
+two-reads = subst (Reads two-words two-keys) two-holds (reading-meets two-sound)
 
 -- B is found in leaf 1 with its total
 B-found : searchOf two-words two-keys B ≡ found.Leaf 1 8

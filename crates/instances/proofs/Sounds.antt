@@ -25,7 +25,7 @@ use Rattle.whole.proofs.Samples.{two-words, two-keys, two-sound}
 use Rattle.pointed.proofs.Heights.{shown-height}
 use Rattle.pointed.proofs.Sounds.{sound-shown}
 use Rattle.demands.specs.Tests.{Passed}
-use Rattle.demands.proofs.Reading.{sound-reads}
+use Rattle.demands.proofs.Reading.{reading-meets}
 use Rattle.instances.specs.Opened.{opened}
 use Rattle.instances.specs.Blocks.{bare, spare, two, lone, room, three, swapped, full, wide, cramped, long, parted, lend, A, B, C, D, E, J1, J2, AX, holding, entry, pair, triple, quadruple, quintuple, long-tags, parted-tags}
 
@@ -77,7 +77,7 @@ parted-sound = whole-sound (parted .words) (parted .keys) refl
 -- ── what a sound block holds ──
 -- walking by next leaf lists it
 pub holds-is : {words keys : List ℕ} (s : Sound words keys) → held (s .tree) ≡ listOf words keys (countWord words)
-holds-is {words} s = sym (sound-reads s .walk (countWord words) (omega (arith, s .count)))
+holds-is {words} s = sym (reading-meets s .walk (countWord words) (omega (arith, s .count)))
 
 -- ── its tree ──
 -- read from the root on
