@@ -10,6 +10,7 @@ use borrow.Author.Tests.{lt-ltb, le-ltb}
 use Rattle.lists.specs.Scan.{choose}
 use Rattle.lists.specs.Compare.{begins}
 use Rattle.lists.specs.Part.{between}
+use Rattle.frames.specs.Kind.{leafSize}
 use Rattle.frames.specs.Frame.{FrameOf}
 use Rattle.frames.specs.Place.{placeAt, inPool, startAt, keyAt}
 use Rattle.frames.specs.declared.frame.Frame.{Frame}
@@ -53,7 +54,7 @@ module _ (f : Frame) (words keys bytes : List ℕ) (ref : ℕ) where
 
   module _ (k : ref % 8 ≡ 5) where
     abbrev leaf : Entry
-    leaf = leafEntry (between words (startAt f (leaf-place (ref / 8))) (startAt f (leaf-place (ref / 8)) + 6)) (keyAt f keys (ref / 8)) bytes
+    leaf = leafEntry (between words (startAt f (leaf-place (ref / 8))) (startAt f (leaf-place (ref / 8)) + leafSize)) (keyAt f keys (ref / 8)) bytes
 
     leaf-by : {b : Bool} → inPool f (placeAt ref) ≡ b → choose b leaf noEntry ≡ entryOf f words keys bytes ref
     leaf-by p = ap (λ (b : Bool). choose b leaf noEntry) (sym p ∙ ap (inPool f) (leaf-named ref k)) ∙ at-place (leaf-named ref k)
@@ -62,8 +63,8 @@ module _ (f : Frame) (words keys bytes : List ℕ) (ref : ℕ) where
     at-outside p = leaf-by p
 
     pub at-leaf : {start : ℕ} {x : Entry} → inPool f (placeAt ref) ≡ true → start ≡ startAt f (placeAt ref)
-        → x ≡ leafEntry (between words start (start + 6)) (keyAt f keys (ref / 8)) bytes → x ≡ entryOf f words keys bytes ref
-    at-leaf p e h = h ∙ ap (λ (a : ℕ). leafEntry (between words a (a + 6)) (keyAt f keys (ref / 8)) bytes) (e ∙ ap (startAt f) (leaf-named ref k)) ∙ leaf-by p
+        → x ≡ leafEntry (between words start (start + leafSize)) (keyAt f keys (ref / 8)) bytes → x ≡ entryOf f words keys bytes ref
+    at-leaf p e h = h ∙ ap (λ (a : ℕ). leafEntry (between words a (a + leafSize)) (keyAt f keys (ref / 8)) bytes) (e ∙ ap (startAt f) (leaf-named ref k)) ∙ leaf-by p
 
 -- ── a step ──
 pub one-by : (t : Tally) (e : Entry) {b : Bool} → e .counts ≡ b → choose b (addedOf t (e .total)) t ≡ tallyOne t e
