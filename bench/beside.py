@@ -118,6 +118,10 @@ def changing(call):
     return lambda memory, tag, *total: (*call(memory.words, memory.keys, memory.scratch, unhexed(tag), *map(int, total)), 0)
 
 
+def asking(call):
+    return lambda memory, beginning: call(memory.words, memory.keys, memory.scratch, unhexed(beginning))
+
+
 def ending_in_0(call):
     return lambda *given: (*call(*given), 0)
 
@@ -131,6 +135,7 @@ CALLS = {
     "search": (with_tag(model.search), (0, 0, 0)),
     "prefix": (with_tag(model.prefix_search), (0, 0, 0)),
     "after": (changing(model.first_at_or_after), (0, 0, 0)),
+    "station": (asking(model.station_total), (0, 0, 0)),
     "min": (ending_in_0(reading(model.minimum)), (0, 0, 0)),
     "max": (ending_in_0(reading(model.maximum)), (0, 0, 0)),
     "next": (ending_in_0(reading(model.next_leaf)), (0, 0, 0)),
@@ -275,7 +280,8 @@ class List:
         if turn < 11:
             self.change(turn < 9 if self.growing else turn < 2)
         elif turn < 17:
-            self.say(self.dice.pick(("search", "prefix", "after")), hexed(self.probe()))
+            call = self.dice.pick(("search", "prefix", "after", "station"))
+            self.say(call, hexed(self.beginning() if call == "station" else self.probe()))
         elif turn < 19:
             self.say(self.dice.pick(("next", "info", "tag")), self.some_leaf())
         else:
@@ -315,6 +321,13 @@ class List:
         beside = tag[:at] + bytes([dice.pick((0, 65, 67, 255))]) + tag[at + 1 :]
         choices = [tag] * 5 + [beside, tag[:at], tag + letters(dice, 1), tag + b"Z" * dice.pick((1, 8, 60, 100)), b""]
         return dice.pick(self.paths) if self.paths and self.chance(2) else dice.pick(choices)
+
+    def beginning(self):
+        """Mostly the front of a held tag, of any length, which many tags may have; or no bytes, which all have; or a held tag and a byte more, or a probe,
+        which often none has: it may be unheld, or longer than any tag."""
+        tag = self.dice.pick(sorted(self.held) or self.tags)
+        front = tag[: self.dice.below(len(tag) + 1)]
+        return self.dice.pick((front, front, front, b"", tag + letters(self.dice, 1), self.probe()))
 
     # Damage
 
@@ -507,6 +520,11 @@ def say_table(answers):
             print(f"{call:8}" + "".join(f"{tally[call, number] or '':>8}" for number in NUMBERS))
 
 
+def carried(answers):
+    """How many station totals are 2^64 or more."""
+    return sum(int(answer.split()[4]) > 0 for answer in answers if answer.startswith("station "))
+
+
 def main(calls=20000, seed=1):
     replay = build()
     made = List(int(calls), int(seed))
@@ -516,6 +534,7 @@ def main(calls=20000, seed=1):
         (OUT / name).write_text("\n".join(lines) + "\n")
     count = differences(made.lines, made.answers, theirs)
     say_table(made.answers)
+    print(f"{carried(made.answers)} of the station totals with carries")
     print(f"{made.damaged} of the calls on damaged blocks")
     print(f"{made.calls} calls, {count} differences")
     return 1 if count or status else 0

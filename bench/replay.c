@@ -6,7 +6,7 @@
  * A call a line; tags in hexadecimal, '-' for the empty tag; numbers in decimal:
  *   start FORM C1 C2 C3 C4 C5 WORDS KEYS SCRATCH   slices of these lengths, filled with rubbish, and a start
  *   again C1 C2 C3 C4 C5                           a start on the slices as they are
- *   insert TAG TOTAL, delete TAG, search TAG, prefix TAG, after TAG, min, max, next LEAF, info LEAF, tag LEAF, check
+ *   insert TAG TOTAL, delete TAG, search TAG, prefix TAG, after TAG, station TAG, min, max, next LEAF, info LEAF, tag LEAF, check
  *   word I VALUE, key I VALUE                      one word or key byte overwritten
  *   words FRONT BACK, keys FRONT BACK              so many words or key bytes more at the front and at the back, all 0, or less where it is negative
  *   scratch LENGTH                                 another scratch slice
@@ -117,6 +117,12 @@ static void maximum(void) { say_found(directory_maximum(BLOCK)); }
 static void next_leaf(void) { say_found(directory_next_leaf(BLOCK, first)); }
 static void check(void) { printf(" %" PRIu32, directory_check(BLOCK, SCRATCH)); }
 
+/* It speaks of no tag, so no 0 stands at the end. */
+static void station_total(void) {
+    directory_station s = directory_station_total(BLOCK, SCRATCH, TAG);
+    printf(" %" PRIu32 " %" PRIu32 " %" PRIu64 " %" PRIu64, s.number, s.count, s.low, s.carries);
+}
+
 static void leaf_facts(void) {
     directory_leaf l = directory_leaf_facts(BLOCK, first);
     printf(" %" PRIu32 " %" PRIu32 " %" PRIu64, l.number, l.length, l.total);
@@ -164,8 +170,9 @@ static const struct {
     void (*run)(void);
 } calls[] = {
     {"start", MOST_FIELDS, NO_TAG, start}, {"again", 6, NO_TAG, start_again}, {"insert", 3, WITH_TAG, insert}, {"delete", 2, WITH_TAG, delete},
-    {"search", 2, WITH_TAG, search}, {"prefix", 2, WITH_TAG, prefix_search}, {"after", 2, WITH_TAG, at_or_after}, {"min", 1, NO_TAG, minimum},
-    {"max", 1, NO_TAG, maximum}, {"next", 2, NO_TAG, next_leaf}, {"info", 2, NO_TAG, leaf_facts}, {"tag", 2, NO_TAG, leaf_tag}, {"check", 1, NO_TAG, check},
+    {"search", 2, WITH_TAG, search}, {"prefix", 2, WITH_TAG, prefix_search}, {"after", 2, WITH_TAG, at_or_after}, {"station", 2, WITH_TAG, station_total},
+    {"min", 1, NO_TAG, minimum}, {"max", 1, NO_TAG, maximum}, {"next", 2, NO_TAG, next_leaf}, {"info", 2, NO_TAG, leaf_facts}, {"tag", 2, NO_TAG, leaf_tag},
+    {"check", 1, NO_TAG, check},
     {"word", 3, NO_TAG, write_word}, {"key", 3, NO_TAG, write_key}, {"words", 3, NO_TAG, reach_words}, {"keys", 3, NO_TAG, reach_keys},
     {"scratch", 2, NO_TAG, lend_scratch}, {"save", 1, NO_TAG, save}, {"back", 1, NO_TAG, back},
 };
