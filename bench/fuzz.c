@@ -1,11 +1,11 @@
-/* Puts the twelve calls to sound, damaged, cut and random memory, and sees that each keeps what include/directory.h says of it on any memory.
+/* Puts the thirteen calls to sound, damaged, cut and random memory, and sees that each keeps what include/directory.h says of it on any memory.
  *
  *   fuzz [CALLS [SEED [bare]]]
  *
  * The same seed makes the same calls. After each call: the number is one that the call may give, with any but 0 the other fields are 0, a refusal and a reading
  * call have changed no word and no key byte, scratch is 0 or as it was, and nothing outside the lent slices has changed. After each accepted insert or delete
  * the check gives 0 and a search sees the change. A call that checks first gives 6 exactly where the check does, and on a block that was only ever changed by
- * accepted calls no call gives 6.
+ * accepted calls no call gives 6, and a station total is what the tags along the leaf list add up to.
  *
  * Every slice stands between guard bytes. With `bare` it does not, but is an allocation of just its size, so that a tool that watches memory sees reads past
  * its end too. Prints how often each call gave each number; exit status 1 for the first call that breaks its word. */
@@ -33,7 +33,7 @@ typedef struct {
     uint64_t rest;
 } answer;
 
-typedef enum { START, SEARCH, PREFIX_SEARCH, MINIMUM, MAXIMUM, NEXT_LEAF, LEAF_FACTS, LEAF_TAG, CHECK, AT_OR_AFTER, INSERT, DELETE, CALLS } call;
+typedef enum { START, SEARCH, PREFIX_SEARCH, MINIMUM, MAXIMUM, NEXT_LEAF, LEAF_FACTS, LEAF_TAG, CHECK, AT_OR_AFTER, STATION_TOTAL, INSERT, DELETE, CALLS } call;
 
 /* A set of numbers; one may stand in it twice. */
 #define ONE_OF(a, b, c, d) (1u << (a) | 1u << (b) | 1u << (c) | 1u << (d))
@@ -53,6 +53,7 @@ static const struct {
     [LEAF_TAG] = {"leaf_tag", ONE_OF(0, 6, 9, 9), false, false},
     [CHECK] = {"check", ONE_OF(0, 6, 7, 7), true, false},
     [AT_OR_AFTER] = {"first_at_or_after", ONE_OF(0, 1, 6, 7), true, false},
+    [STATION_TOTAL] = {"station_total", ONE_OF(0, 6, 7, 7), true, false},
     [INSERT] = {"insert", ONE_OF(0, 2, 3, 4) | ONE_OF(5, 6, 7, 7), true, true},
     [DELETE] = {"delete", ONE_OF(0, 1, 6, 7), true, true},
 };
@@ -137,6 +138,20 @@ static answer of_found(call which, directory_found f) {
     return (answer){f.number, f.leaf | f.total};
 }
 
+static bool begins_with_tag(directory_part held) { return tag.size <= held.length && memcmp(at(keys) + held.start, at(tag), tag.size) == 0; }
+
+/* On a sound block, the same by next leaf. The sum of up to 2^12 totals has room in 128 bits. */
+static answer of_station(directory_station s) {
+    if (sound && s.number == 0) {
+        unsigned __int128 sum = 0;
+        uint32_t count = 0;
+        for (directory_found f = directory_minimum(BLOCK); f.number == 0; f = directory_next_leaf(BLOCK, f.leaf))
+            if (begins_with_tag(directory_leaf_tag(BLOCK, f.leaf))) sum += f.total, count++;
+        if (s.count != count || s.low != (uint64_t)sum || s.carries != (uint64_t)(sum >> 64)) broken("the tags add up to another sum", STATION_TOTAL, s.number);
+    }
+    return (answer){s.number, s.count | s.low | s.carries};
+}
+
 static answer of_changed(directory_changed c) { return (answer){c.number, c.total}; }
 
 static answer of_facts(directory_leaf l) {
@@ -164,6 +179,7 @@ static answer put(call which) {
     case LEAF_TAG: return of_tag(directory_leaf_tag(BLOCK, leaf));
     case CHECK: return (answer){directory_check(BLOCK, SCRATCH), 0};
     case AT_OR_AFTER: return of_found(which, directory_first_at_or_after(BLOCK, SCRATCH, TAG));
+    case STATION_TOTAL: return of_station(directory_station_total(BLOCK, SCRATCH, TAG));
     case INSERT: return of_changed(directory_insert(BLOCK, SCRATCH, TAG, total));
     default: return of_changed(directory_delete(BLOCK, SCRATCH, TAG));
     }
@@ -252,6 +268,15 @@ static void choose_held_tag(void) {
     for (size_t i = 0; i < tag.size; i++) at(tag)[i] = i < held.length ? at(keys)[held.start + i] : 'A';
 }
 
+/* The front of the chosen tag, which others may have too. */
+static void cut_tag(void) {
+    slice whole = {NULL, 0};
+    copy(&whole, tag);
+    lend(&tag, below(whole.size + 1));
+    memcpy(at(tag), at(whole), tag.size);
+    free(whole.room);
+}
+
 static void choose_leaf(void) { leaf = once_in(20) ? (uint32_t)random64() : below(below(room[KINDS - 1] + 2)); }
 
 /* Mostly a byte for each record, sometimes more, sometimes too few. */
@@ -279,6 +304,7 @@ static void start_again(void) {
 static void any_call(void) {
     call which = 1 + below(CALLS - 1);
     once_in(2) ? choose_held_tag() : choose_tag();
+    if (which == STATION_TOTAL && !once_in(3)) cut_tag();
     choose_leaf(), choose_scratch();
     total = random64();
     if (once_in(60)) start_again();
