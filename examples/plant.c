@@ -4,7 +4,6 @@
  *
  * examples/README.md says how to build it and how much memory to lend. */
 #include <inttypes.h>
-#include <stdbool.h>
 #include <stdint.h>
 #include <stdio.h>
 #include <stdlib.h>
@@ -100,25 +99,12 @@ static void search(const plant *p, const char *tag) {
     else puts(meaning(a.number));
 }
 
-/* Whether a leaf was found, and its tag begins with the name of the station. A tag is a part of the key bytes, without a 0 at its end. */
-static bool is_of(const plant *p, const char *name, directory_found a) {
-    if (a.number != 0) return false;
-    directory_part tag = directory_leaf_tag(BLOCK(p), a.leaf);
-    return strlen(name) <= tag.length && memcmp(name, p->keys + tag.start, strlen(name)) == 0;
-}
-
-/* The pumps of a station and what they have pumped: from its first tag by next leaf, as long as the tags begin with its name. At most as many steps as there is
- * room for tags: the leaf list of a damaged block may be a ring. */
+/* The pumps of a station and what they have pumped, exactly: carries times 2^64, and low. */
 static void station(plant *p, const char *name) {
-    directory_found a = directory_first_at_or_after(BLOCK(p), SCRATCH(p), (const uint8_t *)name, strlen(name));
-    uint32_t pumps = 0;
-    uint64_t sum = 0;
-    while (pumps < p->capacity[4] && is_of(p, name, a)) {
-        sum = UINT64_MAX - sum < a.total ? UINT64_MAX : sum + a.total;
-        a = directory_next_leaf(BLOCK(p), a.leaf);
-        pumps++;
-    }
-    printf("station %s: %" PRIu32 " pumps, total flow %" PRIu64 "\n", name, pumps, sum);
+    directory_station a = directory_station_total(BLOCK(p), SCRATCH(p), (const uint8_t *)name, strlen(name));
+    printf("station %s: ", name);
+    if (a.number == 0) printf("%" PRIu32 " pumps, total flow %" PRIu64 ", carries %" PRIu64 "\n", a.count, a.low, a.carries);
+    else puts(meaning(a.number));
 }
 
 /* What is put in. For the ninth pump there is no room; the last tag begins held tags. */

@@ -18,19 +18,19 @@ mod c {
     }
 
     #[repr(C)]
-    pub struct Part {
-        pub start: u64,
-        pub length: u64,
+    pub struct Station {
+        pub number: u32,
+        pub count: u32,
+        pub low: u64,
+        pub carries: u64,
     }
 
     #[link(name = "directory_c", kind = "static")]
     extern "C" {
         pub fn directory_start(words: *mut u32, word_count: usize, keys: *mut u8, key_count: usize, c1: u32, c2: u32, c3: u32, c4: u32, c5: u32) -> u32;
         pub fn directory_search(words: *const u32, word_count: usize, keys: *const u8, key_count: usize, tag: *const u8, tag_length: usize) -> Found;
-        pub fn directory_next_leaf(words: *const u32, word_count: usize, keys: *const u8, key_count: usize, leaf: u32) -> Found;
-        pub fn directory_leaf_tag(words: *const u32, word_count: usize, keys: *const u8, key_count: usize, leaf: u32) -> Part;
         pub fn directory_check(words: *const u32, word_count: usize, keys: *const u8, key_count: usize, scratch: *mut u8, scratch_count: usize) -> u32;
-        pub fn directory_first_at_or_after(words: *const u32, word_count: usize, keys: *const u8, key_count: usize, scratch: *mut u8, scratch_count: usize, tag: *const u8, tag_length: usize) -> Found;
+        pub fn directory_station_total(words: *const u32, word_count: usize, keys: *const u8, key_count: usize, scratch: *mut u8, scratch_count: usize, beginning: *const u8, beginning_count: usize) -> Station;
         pub fn directory_insert(words: *mut u32, word_count: usize, keys: *mut u8, key_count: usize, scratch: *mut u8, scratch_count: usize, tag: *const u8, tag_length: usize, total: u64) -> Changed;
         pub fn directory_delete(words: *mut u32, word_count: usize, keys: *mut u8, key_count: usize, scratch: *mut u8, scratch_count: usize, tag: *const u8, tag_length: usize) -> Changed;
     }
@@ -58,7 +58,6 @@ struct Plant {
     words: Vec<u32>,
     keys: Vec<u8>,
     scratch: Vec<u8>,
-    tags: u32,
 }
 
 impl Plant {
@@ -67,7 +66,7 @@ impl Plant {
         let c = [tags, tags / 4, tags / 16, tags / 48, tags];
         let words = 19 * c[0] + 43 * c[1] + 315 * c[2] + 267 * c[3] + 6 * c[4] + 16;
         let scratch: u32 = c.iter().sum();
-        let mut p = Plant { words: vec![0; words as usize], keys: vec![0; 64 * tags as usize], scratch: vec![0; scratch as usize], tags };
+        let mut p = Plant { words: vec![0; words as usize], keys: vec![0; 64 * tags as usize], scratch: vec![0; scratch as usize] };
         println!("Lent for {} tags: {} words, {} key bytes, {} scratch bytes.", tags, p.words.len(), p.keys.len(), p.scratch.len());
         let number = unsafe { c::directory_start(p.words.as_mut_ptr(), p.words.len(), p.keys.as_mut_ptr(), p.keys.len(), c[0], c[1], c[2], c[3], c[4]) };
         println!("start: {}", meaning(number));
@@ -96,20 +95,10 @@ impl Plant {
         unsafe { c::directory_check(w.as_ptr(), w.len(), k.as_ptr(), k.len(), s.as_mut_ptr(), s.len()) }
     }
 
-    /// The tag is a part of the key bytes.
-    fn tag(&self, leaf: u32) -> &[u8] {
-        let part = unsafe { c::directory_leaf_tag(self.words.as_ptr(), self.words.len(), self.keys.as_ptr(), self.keys.len(), leaf) };
-        &self.keys[part.start as usize..(part.start + part.length) as usize]
-    }
-
-    /// The first leaf at or after a tag.
-    fn first(&mut self, tag: &[u8]) -> c::Found {
+    fn station(&mut self, name: &[u8]) -> Result<c::Station, u32> {
         let (w, k, s) = (&self.words, &self.keys, &mut self.scratch);
-        unsafe { c::directory_first_at_or_after(w.as_ptr(), w.len(), k.as_ptr(), k.len(), s.as_mut_ptr(), s.len(), tag.as_ptr(), tag.len()) }
-    }
-
-    fn next(&self, leaf: u32) -> c::Found {
-        unsafe { c::directory_next_leaf(self.words.as_ptr(), self.words.len(), self.keys.as_ptr(), self.keys.len(), leaf) }
+        let a = unsafe { c::directory_station_total(w.as_ptr(), w.len(), k.as_ptr(), k.len(), s.as_mut_ptr(), s.len(), name.as_ptr(), name.len()) };
+        if a.number == 0 { Ok(a) } else { Err(a.number) }
     }
 }
 
@@ -140,17 +129,12 @@ fn say_search(p: &Plant, tag: &str) {
     }
 }
 
-/// The pumps of a station and what they have pumped: from its first tag by next leaf, as long as the tags begin with its name. At most as many steps as there is
-/// room for tags: the leaf list of a damaged block may be a ring.
+/// The pumps of a station and what they have pumped, exactly: carries times 2^64, and low.
 fn say_station(p: &mut Plant, name: &str) {
-    let mut a = p.first(name.as_bytes());
-    let (mut pumps, mut sum) = (0, 0u64);
-    while pumps < p.tags && a.number == 0 && p.tag(a.leaf).starts_with(name.as_bytes()) {
-        sum = sum.saturating_add(a.total);
-        a = p.next(a.leaf);
-        pumps += 1;
+    match p.station(name.as_bytes()) {
+        Ok(a) => println!("station {name}: {} pumps, total flow {}, carries {}", a.count, a.low, a.carries),
+        Err(number) => println!("station {name}: {}", meaning(number)),
     }
-    println!("station {name}: {pumps} pumps, total flow {sum}");
 }
 
 /// What is put in. For the ninth pump there is no room; the last tag begins held tags.
