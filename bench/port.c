@@ -225,6 +225,15 @@ static bool at_or_after(const command *line) {
     return true;
 }
 
+static bool station_total(const command *line) {
+    text bytes;
+    if (!read_bytes(line->word[1], &bytes)) return false;
+    directory_station sum = directory_station_total(BLOCK, SCRATCH, bytes.bytes, bytes.length);
+    printf("%" PRIu32, sum.number);
+    if (sum.number == 0) printf(" %" PRIu32 " %" PRIu64 " %" PRIu64, sum.count, sum.low, sum.carries);
+    return true;
+}
+
 static bool next(const command *line) {
     text tag;
     if (!read_bytes(line->word[1], &tag)) return false;
@@ -339,8 +348,8 @@ static const struct {
     const char *name;
     bool (*answer)(const command *);
 } commands[] = {
-    {"i", insert}, {"d", delete}, {"s", search}, {"p", prefix_search}, {"min", minimum}, {"max", maximum}, {"ge", at_or_after}, {"next", next},
-    {"list", list}, {"count", count}, {"check", check}, {"draw", drawing}, {"kinds", kinds}, {"slots", slots},
+    {"i", insert}, {"d", delete}, {"s", search}, {"p", prefix_search}, {"min", minimum}, {"max", maximum}, {"ge", at_or_after},
+    {"station", station_total}, {"next", next}, {"list", list}, {"count", count}, {"check", check}, {"draw", drawing}, {"kinds", kinds}, {"slots", slots},
     /* the crate's side draws the sorted list here, so equal answers say that the tree is the one that its tags define */
     {"canon", drawing},
     {"reset", reset}, {"prefix", prefix}, {"keys", key_array}, {"miscount", miscount},

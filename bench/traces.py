@@ -163,6 +163,32 @@ def drawn(seed, shape, steps, room):
         yield from STATE + ENDS if step % 25 == 0 else []
 
 
+def plant(dice):
+    return b"L%d/P%d/FLOW" % (10 + dice.below(12), dice.below(9))
+
+
+def front(dice, tag):
+    """The first bytes of a tag, any number of them, or all and a byte more."""
+    return tag + bytes([dice.below(256)]) if dice.below(8) == 0 else tag[: dice.below(len(tag) + 1)]
+
+
+def stations(steps):
+    """Tags of each shape and of a plant come and go, with totals whose sums carry; after each step it is asked what some bytes begin. `vectors` takes no part
+    of this list, since its program does not know the command."""
+    for at, (shape, room) in enumerate([*SHAPES, (plant, 60)]):
+        dice, held = Dice(3000 + at), []
+        yield f"reset {room}"
+        for _ in range(steps):
+            if len(held) == room or held and dice.below(4) == 0:
+                yield ask("d", held.pop(dice.below(len(held))))
+            else:
+                tag = shape(dice)
+                yield insert(tag, dice.pick([1, LARGEST, LARGEST, dice.below(2**31)]))
+                held += [tag] if tag not in held and not clashes(tag, held) else []
+            yield ask("station", front(dice, dice.pick([*held, shape(dice)])))
+        yield from [ask("station", b""), "list"]
+
+
 def lists(quick):
     up, down = list(range(256)), list(range(255, -1, -1))
     tags = [b"", b"a", b"b", b"aa", b"ab", b"aab", b"ba", b"aaa", b"c"]
@@ -170,6 +196,7 @@ def lists(quick):
     yield "runs8", runs(2 if quick else 4)
     yield "kinds_up", kinds(up, down)
     yield "deep", deep(1 if quick else 6)
+    yield "stations", stations(60 if quick else 1500)
     if not quick:
         yield "small3", small(3, [])
         yield "kinds_down", kinds(down, up)

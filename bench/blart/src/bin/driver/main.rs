@@ -69,6 +69,17 @@ fn at_or_after(map: &Map, key: &[u8]) -> String {
     }
 }
 
+/// The crate has no such call: its range from these bytes on, for as long as they begin the keys, added up with room for any sum.
+fn station_total(map: &Map, bytes: &[u8]) -> String {
+    let (mut count, mut sum) = (0, 0u128);
+    let from = map.range(Bound::Included(bytes), Bound::Unbounded);
+    for (_, value) in from.take_while(|(key, _)| key.starts_with(bytes)) {
+        count += 1;
+        sum += u128::from(*value);
+    }
+    format!("0 {count} {} {}", sum as u64, sum >> 64)
+}
+
 fn next(map: &Map, key: &[u8]) -> String {
     match map.search(key) {
         Some(leaf) => found(map.next_leaf(leaf)),
@@ -114,6 +125,7 @@ fn listed(map: &mut Map, command: &Command) -> Option<String> {
         "min" => found(map.minimum()),
         "max" => found(map.maximum()),
         "ge" => at_or_after(map, &command.bytes(1)?),
+        "station" => station_total(map, &command.bytes(1)?),
         "next" => next(map, &command.bytes(1)?),
         "list" => list(map),
         "count" => map.len().to_string(),
