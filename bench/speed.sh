@@ -1,5 +1,5 @@
 #!/bin/sh
-# Times the calls of the port and of the crate on the same tags, and the port's check beside a plain pass over the block.
+# Times the calls of the port and of the crate on the same tags, the port's check beside a plain pass over the block, and its station total beside the check.
 #
 #   bench/speed.sh
 #
