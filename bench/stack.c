@@ -1,4 +1,4 @@
-/* How much stack the four calls that check take: on the deepest tree that there can be, with 64 inner records on a path, and on 256 one-byte tags. Of inserts and
+/* How much stack the five calls that check take: on the deepest tree that there can be, with 64 inner records on a path, and on 256 one-byte tags. Of inserts and
  * deletes it is the most while all tags are put in one after another, and taken out.
  *
  *   cc -O2 -std=c11 -Iinclude bench/stack.c target/staticlib/libdirectory_c.a -pthread -o target/stack && LD_BIND_NOW=1 target/stack
@@ -16,7 +16,7 @@
 
 enum { ROOM = 1 << 20, PAINT = 0xa5, DEEP = 65, WIDE = 256, MOST = 256 };
 
-typedef enum { NOTHING, CHECK, AT_OR_AFTER, INSERT, DELETE } call;
+typedef enum { NOTHING, CHECK, AT_OR_AFTER, STATION_TOTAL, INSERT, DELETE } call;
 
 static uint32_t words[200000];
 static uint8_t keys[64 * (MOST + 1)], scratch[2000];
@@ -38,6 +38,7 @@ static void *run(void *unused) {
     switch (now) {
     case CHECK: number = directory_check(BLOCK, SCRATCH); break;
     case AT_OR_AFTER: number = directory_first_at_or_after(BLOCK, SCRATCH, tag, tag_length).number; break;
+    case STATION_TOTAL: number = directory_station_total(BLOCK, SCRATCH, tag, tag_length).number; break;
     case INSERT: number = directory_insert(BLOCK, SCRATCH, tag, tag_length, 1).number; break;
     case DELETE: number = directory_delete(BLOCK, SCRATCH, tag, tag_length).number; break;
     default: number = 0;
@@ -90,6 +91,7 @@ int main(void) {
         printf("  insert of new tags      %6zu bytes\n", most(INSERT, deep, 0, tags));
         printf("  check                   %6zu bytes\n", most(CHECK, deep, 0, 1));
         printf("  first at or after       %6zu bytes\n", most(AT_OR_AFTER, deep, tags - 1, tags));
+        printf("  station total           %6zu bytes\n", most(STATION_TOTAL, deep, tags - 1, tags));
         printf("  insert over held tags   %6zu bytes\n", most(INSERT, deep, 0, tags));
         printf("  delete                  %6zu bytes\n", most(DELETE, deep, 0, tags));
     }
