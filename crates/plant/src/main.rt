@@ -133,6 +133,11 @@ fn insert_all(words: &mut [u32; WORDS], keys: &mut [u8; KEYS]) {
 fn station(words: &[u32], keys: &[u8], name: &[u8]) {
     let mut scratch = [0u8; SCRATCH];
     let a = directory_c::directory_station_total(words, keys, &mut scratch, name);
+    if a.number != 0 {
+        text::named(b"station $: ", name);
+        answer(a.number, b"", 0);
+        return;
+    }
     text::fill(
         b"station $: # pumps, total flow #, carries #\n",
         name,
