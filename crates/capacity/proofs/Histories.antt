@@ -6,6 +6,7 @@ use mathlib.Core.List.{List, [], _∷_}
 use mathlib.Core.Bool.{Bool, true, false}
 use native.Mathlib.Omega.{arith}
 use lib.ListN.{length}
+use Rattle.frames.specs.Kind.{kindRow}
 use Rattle.frames.specs.Frame.{frame}
 use Rattle.frames.specs.Kind.{markOf}
 use Rattle.frames.specs.declared.frame.Caps.{Caps}
@@ -43,6 +44,7 @@ use Rattle.capacity.proofs.Steps.{put-tight, left-tight, over-tight}
 
 -- the capacities of n tags, rounded down
 pub usual-ample : (n : ℕ) → Ample n (n / 4) (n / 16) (n / 48) n
+unfolding kindRow
 usual-ample n = record { ones = omega arith; twos = omega arith; threes = omega arith; fours = omega arith }
 
 -- ── one call ──

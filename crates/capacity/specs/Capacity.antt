@@ -24,12 +24,12 @@ abbrev pub Large : Frame → Type 0
 Large f = cap f 5 ≤ cap f 4 + 1
 
 -- ── after calls from a start on ──
--- in each kind a record for each branching that can need it: c5 tags have at most c5 - 1, of which (c5 - 1) / m have over m children
+-- in each kind a record for each branching that can need it: c5 tags have at most c5 - 1, of which (c5 - 1) / m have over m children, and a kind is needed for over its mark
 pub record Ample (c1 c2 c3 c4 c5 : ℕ) : Type 0 where
   pub ones : c5 - 1 ≤ c1
-  pub twos : (c5 - 1) / 4 ≤ c2
-  pub threes : (c5 - 1) / 16 ≤ c3
-  pub fours : (c5 - 1) / 48 ≤ c4
+  pub twos : (c5 - 1) / markOf 2 ≤ c2
+  pub threes : (c5 - 1) / markOf 3 ≤ c3
+  pub fours : (c5 - 1) / markOf 4 ≤ c4
 
 -- the capacities that a frame has are such
 abbrev pub AmpleFrame : Frame → Type 0
