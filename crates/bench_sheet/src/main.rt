@@ -1,5 +1,7 @@
 // The part of the bench sheet that is run: tags of 64 and 65 bytes, all 256 one-byte tags in and out, and the totals 0 and 2^64 - 1. Each call prints its
 // number and what is returned beside it.
+#![tactic(auto)]
+
 mod steps; // the stored list
 
 ghost use Rattle.std.specs.Prelude.{◌≤◌, ◌<◌};

@@ -37,7 +37,7 @@ const L14B: u32 = 7;
 const MOST: u64 = 18446744073709551615;
 
 // What it does, the tag, and the total.
-#[derive(Drop)]
+#[derive(Clone, Copy)]
 pub struct Step(pub u32, pub u32, pub u64);
 
 pub const COUNT: usize = 27;

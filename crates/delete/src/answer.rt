@@ -1,6 +1,6 @@
 // What delete answers, by value. specs/Answer.antt gives each answer's number and total.
 
-#[derive(Drop)]
+#[derive(Clone, Copy)]
 pub enum Deleted {
     Gone(u64), // with the total that it had
     Missing,

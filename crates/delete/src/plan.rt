@@ -19,7 +19,7 @@ use records::{leaf_node, representation};
 use writes::leaf_node::Gap;
 
 // What becomes of the tree. Records go by their references.
-#[derive(Drop)]
+#[derive(Clone, Copy)]
 pub enum Cut {
     Root, // the leaf was the root
     Stay(u32, u8), // the record above loses a child
@@ -28,7 +28,7 @@ pub enum Cut {
 }
 
 // What delete does.
-#[derive(Drop)]
+#[derive(Clone, Copy)]
 pub enum Plan {
     Take(Cut, u32, Gap), // the leaf by its number, and its neighbours
     Missing,

@@ -1,4 +1,6 @@
 // The functions for C. Slices pass as a pointer and a count; include/directory.h says what each call is for.
+#![tactic(auto)]
+
 ghost use Rattle.std.specs.Prelude.{[], ◌≡◌};
 ghost use Rattle.demands.specs.Calls as calls;
 ghost use Rattle.demands.specs.Told.{only, told_by};
@@ -18,7 +20,7 @@ use whole::check::Checked;
 
 // A leaf's number and total, and the number given back.
 #[repr(C)]
-#[derive(Drop)]
+#[derive(Clone, Copy)]
 pub struct DirectoryFound {
     pub number: u32,
     pub leaf: u32,
@@ -27,7 +29,7 @@ pub struct DirectoryFound {
 
 // The total that a tag had, and the number given back.
 #[repr(C)]
-#[derive(Drop)]
+#[derive(Clone, Copy)]
 pub struct DirectoryChanged {
     pub number: u32,
     pub total: u64,
@@ -35,7 +37,7 @@ pub struct DirectoryChanged {
 
 // A leaf's tag length and total, and the number given back.
 #[repr(C)]
-#[derive(Drop)]
+#[derive(Clone, Copy)]
 pub struct DirectoryLeaf {
     pub number: u32,
     pub length: u32,
@@ -44,7 +46,7 @@ pub struct DirectoryLeaf {
 
 // How many tags begin so, the sum of their totals by its low 64 bits and its carries, and the number given back.
 #[repr(C)]
-#[derive(Drop)]
+#[derive(Clone, Copy)]
 pub struct DirectoryStation {
     pub number: u32,
     pub count: u32,
@@ -54,7 +56,7 @@ pub struct DirectoryStation {
 
 // A tag as a part of the key bytes; 0 and 0 where it is empty.
 #[repr(C)]
-#[derive(Drop)]
+#[derive(Clone, Copy)]
 pub struct DirectoryPart {
     pub start: u64,
     pub length: u64,

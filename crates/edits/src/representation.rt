@@ -20,7 +20,7 @@ use prefix::Prefix;
 use records::header::CHILDREN;
 
 // What is done to the children of a record, for one byte: a child more, the child taken out, another reference for it.
-#[derive(Drop)]
+#[derive(Clone, Copy)]
 pub enum Change {
     Add(u32),
     Remove,

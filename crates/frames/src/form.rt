@@ -5,7 +5,7 @@ ghost use Rattle.frames.specs.Form.{form_of, form_known, header, record_words, s
 use super::kind;
 
 // Its number, the words of its stored prefix and of its count below, and the longest tag.
-#[derive(Drop)]
+#[derive(Clone, Copy)]
 pub struct Form {
     pub number: u32,
     pub prefix: u32,
@@ -61,7 +61,7 @@ fn body_of(row: kind::KindRow) -> usize
 }
 
 // The words of a record by its pool.
-#[derive(Drop)]
+#[derive(Clone, Copy)]
 pub struct Sizes {
     pub z1: usize,
     pub z2: usize,

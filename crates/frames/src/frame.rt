@@ -23,7 +23,7 @@ pub const LAST: usize = 13;
 pub const TAGS: usize = 14;
 
 // The five capacities.
-#[derive(Drop)]
+#[derive(Clone, Copy)]
 pub struct Caps {
     pub c1: u32,
     pub c2: u32,
@@ -33,7 +33,7 @@ pub struct Caps {
 }
 
 // The five distances back from the trailer.
-#[derive(Drop)]
+#[derive(Clone, Copy)]
 pub struct Backs {
     pub b1: usize,
     pub b2: usize,
@@ -43,7 +43,7 @@ pub struct Backs {
 }
 
 // By the kind of a reference: the size of a record, the capacity and the first word of the pool. Kinds 0, 6 and 7 have no records.
-#[derive(Drop)]
+#[derive(Clone, Copy)]
 pub struct Frame {
     pub form: Form,
     pub sizes: [usize; 8],

@@ -3,7 +3,7 @@ ghost use Rattle.std.specs.Prelude.{◌≡◌, ◌≤◌};
 ghost use Rattle.frames.specs.Kind.{kind_row, kind_for};
 
 // How many children a record of the kind may have, its words in form 1, and the number of children at or below which it shrinks.
-#[derive(Drop)]
+#[derive(Clone, Copy)]
 pub struct KindRow {
     pub children: u32,
     pub words: u32,

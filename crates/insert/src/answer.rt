@@ -1,6 +1,6 @@
 // What insert answers, by value. specs/Answer.antt gives each answer's number and total.
 
-#[derive(Drop)]
+#[derive(Clone, Copy)]
 pub enum Inserted {
     New,
     Over(u64), // the tag was held, with this total

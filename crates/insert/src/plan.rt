@@ -19,7 +19,7 @@ use records::leaf_node;
 use writes::leaf_node::Gap;
 
 // What becomes of the tree. Records go by their references.
-#[derive(Drop)]
+#[derive(Clone, Copy)]
 pub enum Site {
     Root, // the first tag
     Add(u32, u8), // a child more, in a record that has room
@@ -28,14 +28,14 @@ pub enum Site {
 }
 
 // A site, or no free record for it.
-#[derive(Drop)]
+#[derive(Clone, Copy)]
 pub enum Choice {
     At(Site),
     Nowhere,
 }
 
 // What insert does.
-#[derive(Drop)]
+#[derive(Clone, Copy)]
 pub enum Plan {
     Over(u32), // another total for the leaf
     New(Site, u32, Gap), // a new leaf, by its number

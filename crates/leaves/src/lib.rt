@@ -1,4 +1,6 @@
 // The calls on a leaf number: the next leaf, a leaf's length and total, and its tag.
+#![tactic(auto)]
+
 ghost use Rattle.std.specs.Prelude.{◌≡◌, ◌≤◌, ◌+◌, length};
 ghost use Rattle.frames.specs.Kind.{leaf_size};
 ghost use Rattle.frames.specs.Frame.{FrameOf};
@@ -14,7 +16,7 @@ use tree::answer::{Facts, Found};
 use tree::{arrive, minmax};
 
 // What stands at a leaf number: no leaf in use, a leaf that breaks its rule, or a leaf with its first word.
-#[derive(Drop)]
+#[derive(Clone, Copy)]
 pub enum LeafState {
     Good(usize),
     Broken,

@@ -1,5 +1,7 @@
 // A small plant's pumps and their flow totals, kept in lent memory: put in, read, one set again, one scrapped, and added up by station. A line for each call says
 // what was asked and what came back. examples/plant.c and examples/plant.rs print the same.
+#![tactic(auto)]
+
 ghost use Rattle.plant.specs.Noted.{Noted};
 
 use directory_c::DirectoryChanged;
@@ -96,7 +98,7 @@ fn start(words: &mut [u32; WORDS], keys: &mut [u8; KEYS]) {
 }
 
 // A pump's tag and its total.
-#[derive(Drop)]
+#[derive(Clone, Copy)]
 struct Row(pub [u8; 11], pub u64);
 
 // What is put in; for the last there is no room.

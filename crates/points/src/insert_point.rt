@@ -21,14 +21,14 @@ use tree::minmax::Edge;
 use tree::{arrive, minmax, seen};
 
 // The record above, by its reference, with the byte that leads down from it; or none at the root.
-#[derive(Drop)]
+#[derive(Clone, Copy)]
 pub enum Up {
     Top,
     Via(u32, u8),
 }
 
 // Where the way of a tag ends. Records and leaves go by their references.
-#[derive(Drop)]
+#[derive(Clone, Copy)]
 pub enum Point {
     Holds(Up, Up, u32), // at the leaf that holds it, with the record above the record above, and the record above
     Clash, // it begins a held tag, or a held tag begins it
@@ -38,14 +38,14 @@ pub enum Point {
 }
 
 // The next reference with its depth, and the byte that leads to it; or the point.
-#[derive(Drop)]
+#[derive(Clone, Copy)]
 pub enum Step {
     Next(u32, usize, u8),
     Final(Point),
 }
 
 // How many bytes of a run agree, where it can be read.
-#[derive(Drop)]
+#[derive(Clone, Copy)]
 pub enum Run {
     Agrees(usize),
     Lost,

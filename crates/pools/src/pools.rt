@@ -6,7 +6,7 @@ ghost use Rattle.pools.specs.Pool.{lowest_free, free_kind};
 use frames::frame::Frame;
 
 // A record that is free, by kind and number.
-#[derive(Drop)]
+#[derive(Clone, Copy)]
 pub enum Free {
     At(u32, usize),
     Nowhere,

@@ -10,7 +10,7 @@ use frames::{form, frame};
 use lists::edit;
 
 // What start says: done, or a refusal.
-#[derive(Drop)]
+#[derive(Clone, Copy)]
 pub enum Started {
     Done,
     Refused,

@@ -6,14 +6,14 @@ use super::Prefix;
 use lists::compare;
 
 // Whether each prefix so far was compared whole, or bytes of one were skipped.
-#[derive(Drop)]
+#[derive(Clone, Copy)]
 pub enum PrefixMatchBehavior {
     Pessimistic,
     Optimistic,
 }
 
 // Past the prefix, at the place of the byte after it; or off it, with the number of bytes that agreed.
-#[derive(Drop)]
+#[derive(Clone, Copy)]
 pub enum PrefixMatch {
     On(usize, PrefixMatchBehavior),
     Off(usize),

@@ -1,5 +1,7 @@
 // First-at-or-after: the first held tag that does not come before the given bytes, in unsigned byte order. The whole check comes first, so that the leaf
 // list is all leaves in the order of their tags, and the first that is not below is found along it.
+#![tactic(auto)]
+
 ghost use Rattle.std.specs.Prelude.{◌≡◌, true, ◌≤◌, ◌+◌, ◌*◌, length};
 ghost use Rattle.lists.specs.Part.{between};
 ghost use Rattle.frames.specs.Kind.{leaf_size};
@@ -16,7 +18,7 @@ use whole::check;
 use whole::check::Checked;
 
 // A leaf's number and total, or why there is none.
-#[derive(Drop)]
+#[derive(Clone, Copy)]
 pub enum After {
     Leaf(u32, u64),
     Missing,
@@ -25,7 +27,7 @@ pub enum After {
 }
 
 // The next reference along the leaf list, or the final answer.
-#[derive(Drop)]
+#[derive(Clone, Copy)]
 pub enum Step {
     Next(u32),
     Final(After),

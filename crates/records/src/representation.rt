@@ -12,7 +12,7 @@ use frames::frame::num;
 use frames::{form, kind};
 
 // A child of a row: its byte and its reference.
-#[derive(Drop)]
+#[derive(Clone, Copy)]
 pub enum Entry {
     Child(u32, u32),
     Nothing,

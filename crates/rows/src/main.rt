@@ -1,5 +1,7 @@
 // Runs a stored list of steps on records of each kind and prints a line a step: what is asked, then the record that stands afterwards, or the answer.
 // A record's row is printed as byte:reference, in kind 3 with @ and the slot's number.
+#![tactic(auto)]
+
 mod steps; // the stored list
 
 ghost use Rattle.std.specs.Prelude.{◌≡◌, ◌≤◌, ◌<◌, length};

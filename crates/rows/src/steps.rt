@@ -30,7 +30,7 @@ pub const OLD_BYTE: u8 = 104;
 pub const OLD_REFERENCE: u32 = 5;
 
 // `number` is a kind for NEW and MOVE, else how many in a row. References are those of leaves, 8 × number + 5.
-#[derive(Drop)]
+#[derive(Clone, Copy)]
 pub struct Step {
     pub op: u32,
     pub number: u32,

@@ -1,5 +1,7 @@
 // A block that was saved to a file: the word count as four bytes, the words, and then the key bytes, all numbers lowest byte first. Any other file is no block, and so is
 // one of more than 60,000 bytes.
+#![tactic(auto)]
+
 ghost use Rattle.std.specs.Prelude.{◌≡◌, ◌≤◌, ◌<◌, ◌+◌, ◌*◌, length};
 ghost use Rattle.saved.specs.Saved.{number_at, words_of, block_of, opened, open_of};
 
@@ -10,7 +12,7 @@ pub const MOST: usize = 60000;
 pub const WORDS: usize = 14999;
 
 // A block of so many words, with all that follows them as its key bytes; or no block.
-#[derive(Drop)]
+#[derive(Clone, Copy)]
 pub enum Saved {
     Block(usize),
     Other,

@@ -1,5 +1,7 @@
 // A station's line for the shift clerk: how many tags of a saved block begin with given bytes, and the exact sum of their totals. The first argument names the file, and the
 // beginning is all of standard input. Prints number, count, low sum and carries. A file that cannot be read is an empty one, which is no block.
+#![tactic(auto)]
+
 ghost use Rattle.std.specs.Prelude.{◌≡◌};
 ghost use Rattle.station.specs.Line.{line_as, block_line, line_of};
 
@@ -14,7 +16,7 @@ const SCRATCH: usize = 1152;
 const FILE: usize = saved::MOST + 1;
 
 // What is printed.
-#[derive(Drop)]
+#[derive(Clone, Copy)]
 struct Line {
     pub number: u32,
     pub count: u32,

@@ -1,5 +1,7 @@
 // Station total: how many held tags begin with given bytes, and the exact sum of their totals. The whole check comes first, so that the leaf list is all leaves,
 // each once, and one pass along it adds up those that begin so.
+#![tactic(auto)]
+
 ghost use Rattle.std.specs.Prelude.{◌≡◌, true, ◌≤◌, ◌<◌, ◌+◌, ◌*◌, length};
 ghost use Rattle.lists.specs.Part.{between};
 ghost use Rattle.frames.specs.Kind.{leaf_size};
@@ -17,7 +19,7 @@ use whole::check;
 use whole::check::Checked;
 
 // The tally of the tags that begin so, or why there is none.
-#[derive(Drop)]
+#[derive(Clone, Copy)]
 pub enum Totalled {
     Sum(Tally),
     Damaged,
@@ -25,7 +27,7 @@ pub enum Totalled {
 }
 
 // What stands at a reference of the leaf list: whether the leaf's tag begins so, its total, and the reference of the leaf after it.
-#[derive(Drop)]
+#[derive(Clone, Copy)]
 pub struct Entry {
     pub counts: bool,
     pub total: u64,

@@ -1,8 +1,10 @@
 // The clerk's tally: how many tags were counted, and the exact sum of their totals as a low word and a count of carries.
+#![tactic(auto)]
+
 ghost use Rattle.std.specs.Prelude.{◌≡◌};
 ghost use Rattle.tally.specs.Tally.{Room, added_of, nothing};
 
-#[derive(Drop)]
+#[derive(Clone, Copy)]
 pub struct Tally {
     pub count: u32,
     pub low: u64,

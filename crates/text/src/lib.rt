@@ -1,4 +1,6 @@
 // What the programs print and read alike: texts and numbers on standard output, forms with places for them, and words of a line.
+#![tactic(auto)]
+
 pub mod read; // words, tags and numbers out of a line
 
 ghost use Rattle.std.specs.Prelude.{◌<◌};

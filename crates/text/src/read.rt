@@ -109,7 +109,7 @@ pub fn read_tag(space: &mut [u8], word: &[u8]) -> usize
 }
 
 // A number, where a word is one that fits.
-#[derive(Drop)]
+#[derive(Clone, Copy)]
 pub enum Amount {
     Of(u64),
     None,

@@ -1,7 +1,7 @@
 // What the calls answer, by value. specs/Answer.antt gives each answer's number and values.
 
 // A leaf's number and total, or why there is none.
-#[derive(Drop)]
+#[derive(Clone, Copy)]
 pub enum Found {
     Leaf(u32, u64),
     Missing,
@@ -10,7 +10,7 @@ pub enum Found {
 }
 
 // A leaf's tag length and total, or why there are none.
-#[derive(Drop)]
+#[derive(Clone, Copy)]
 pub enum Facts {
     Leaf(u32, u64),
     Damaged,

@@ -21,14 +21,14 @@ use prefix::lookup::{PrefixMatch, PrefixMatchBehavior};
 use records::{header, leaf_node, representation};
 
 // What the held tag must be: the given bytes, or a beginning of them.
-#[derive(Drop)]
+#[derive(Clone, Copy)]
 pub enum Aim {
     Exact,
     Begin,
 }
 
 // The next reference with its depth, and whether bytes were skipped; or the final answer.
-#[derive(Drop)]
+#[derive(Clone, Copy)]
 pub enum Step {
     Next(u32, usize, PrefixMatchBehavior),
     Final(Found),

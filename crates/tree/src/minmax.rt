@@ -21,14 +21,14 @@ use records::representation::Entry;
 use records::{leaf_node, representation};
 
 // Which end of a row.
-#[derive(Drop)]
+#[derive(Clone, Copy)]
 pub enum Edge {
     Low,
     High,
 }
 
 // The next reference, or the final answer.
-#[derive(Drop)]
+#[derive(Clone, Copy)]
 pub enum EdgeStep {
     Next(u32),
     Final(Found),

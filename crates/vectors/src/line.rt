@@ -35,7 +35,7 @@ const UNKNOWN: u32 = 16;
 pub const NOTHING: u32 = 17;
 
 // A command, how many bytes its tag has, and its total; for a reset the number of tags.
-#[derive(Drop)]
+#[derive(Clone, Copy)]
 pub struct Command {
     pub name: u32,
     pub length: usize,

@@ -1,5 +1,7 @@
 // Answers commands, one a line, as bench/blart/src/bin/driver and bench/port.c do; bench/README.md lists them. `stdin` is a sample of the lists that are put to
 // the crate, and `stdout` what the crate itself answered, so the port is compared with the crate's answers where there is no Rust.
+#![tactic(auto)]
+
 mod draw; // the tree on one line
 mod line; // a line taken apart
 mod say; // answers

@@ -12,7 +12,7 @@ use frames::frame::Frame;
 use lists::edit;
 
 // Done, damaged, or scratch shorter than the five capacities added.
-#[derive(Drop)]
+#[derive(Clone, Copy)]
 pub enum Checked {
     Sound,
     Damaged,

@@ -23,7 +23,7 @@ use tree::arrive;
 use tree::arrive::Arrival;
 
 // The reference of the leaf seen last, 0 at the start; the reference that must follow it; and how many leaves were seen.
-#[derive(Drop)]
+#[derive(Clone, Copy)]
 pub struct Seen {
     pub prev: u32,
     pub next: u32,
@@ -31,14 +31,14 @@ pub struct Seen {
 }
 
 // All is well so far, with the reference of the first leaf below; or not.
-#[derive(Drop)]
+#[derive(Clone, Copy)]
 pub enum Visit {
     Well(u32, Seen),
     Ill,
 }
 
 // An inner record by its kind and first word, and the depth at which its row branches.
-#[derive(Drop)]
+#[derive(Clone, Copy)]
 pub struct Row {
     pub kind: u32,
     pub start: usize,
@@ -46,7 +46,7 @@ pub struct Row {
 }
 
 // What is to be done at a record: its row, or nothing more.
-#[derive(Drop)]
+#[derive(Clone, Copy)]
 pub enum Turn {
     Branch(Row),
     Done(Visit),

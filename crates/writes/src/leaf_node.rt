@@ -15,7 +15,7 @@ use lists::edit;
 use pools::{leaf_node, links};
 
 // The leaves before and after one in the list, 0 at its ends.
-#[derive(Drop)]
+#[derive(Clone, Copy)]
 pub struct Gap {
     pub previous: u32,
     pub next: u32,

@@ -17,7 +17,7 @@ use prefix::Prefix;
 use records::header::prefix_at;
 
 // A part of the words: its first word, and the first after it.
-#[derive(Drop)]
+#[derive(Clone, Copy)]
 pub struct Part {
     pub start: usize,
     pub end: usize,
