@@ -143,6 +143,7 @@ module _ {A : Type 0} where
       kids = under (c ∷ []) (contents t)
 
       later : x ≡ c → (z : Tag) → HeadAbove c z → x ∷ u ≢ z
+      later i [] h e = elim h [ ]
       later i (d ∷ z) h e = let j = head-eq_of_cons-eq e in omega arith
 
       go : (d : Dec (x ≡ c)) → find exact (x ∷ u) (row_contents r) ≡ at_kid none (λ c t. find exact u (contents t)) x r

@@ -28,6 +28,7 @@ off_zero : (l : List ℕ) → Off 0 l
 off_zero l x i e = omega arith
 
 off_leaf : (n : ℕ) (l : List ℕ) → ¬ In n l → Off (leaf_ref n) l
+off_leaf n [] h x x5 e = elim x5 [ ]
 off_leaf n (y ∷ l) h x (inl i) e = h (inl (omega arith))
 off_leaf n (y ∷ l) h x (inr i) e = off_leaf n l (λ j. h (inr j)) x i e
 

@@ -55,6 +55,7 @@ module _ {A : Type 0} where
   above_trans b c (child d t r) h k = (omega arith, above_trans b c r h k.1)
 
   has_above : (b x : ℕ) (r : Row A) → Above b r → Has x r → b < x
+  has_above b x end h x3 = elim x3 [ ]
   has_above b x (child c t r) h (inl e) = omega arith
   has_above b x (child c t r) h (inr k) = has_above b x r h.1 k
 
@@ -104,6 +105,7 @@ module _ {A : Type 0} where
 
   -- ── theorem I: contents ──
   first_apart : (P : Tag → Type 0) (p : Tag) (l : Listing A) → Filled l → Every P (under p l) → (x : Tag) × P (p ++ x)
+  first_apart P p [] f h = elim f [ ]
   first_apart P p (e ∷ l) f h = (e.0, h.0)
 
   grow_leaf_contents : (pl : Plan) (s : Tag) (a : A) (n : ℕ) (rest : Tag) (v : A) (m : Meet s rest) → Apart s rest → contents (grow_leaf pl s a n rest v m) ≡ put s a ((rest, v) ∷ [])

@@ -35,6 +35,7 @@ module _ {A : Type 0} where
   mutual
     -- two stores that show a tree below a path have the same cells at its places
     pub agree : (σ τ : Store A) (t : Tree A) (p : Tag) → Shows t p σ → Shows t p τ → (x : Place) → In x (spots t) → σ x ≡ τ x
+    agree σ τ (leaf n s a) p h k x (inr j) = elim j [ ]
     agree σ τ (leaf n s a) p h k x (inl e) = ap σ e ∙ h ∙ sym k ∙ sym (ap τ e)
     agree σ τ (inner k n run r) p h i x (inl e) = ap σ e ∙ h.0 ∙ sym i.0 ∙ sym (ap τ e)
     agree σ τ (inner k n run r) p h i x (inr j) = row_agree σ τ r (p ++ run) h.1 i.1 x j

@@ -62,6 +62,7 @@ module _ {A : Type 0} where
   rest_stays f c x u r i ab = alter_none f (x ∷ u) (row_contents r) (every_imp _ _ (λ z h. other z h) (row_contents r) (row_above c r ab))
     where
       other : (z : Tag) → HeadAbove c z → x ∷ u ≢ z
+      other [] h e = elim h [ ]
       other (d ∷ z) h e = let j = head-eq_of_cons-eq e in omega arith
 
   kids_stay : (f : A → Option A) (c x : ℕ) (u : Tag) (t : Tree A) → x ≢ c → alter f (x ∷ u) (under (c ∷ []) (contents t)) ≡ under (c ∷ []) (contents t)

@@ -25,16 +25,22 @@ common_apart x y s t n = if_neg (ℕ_discrete x y) n _ _
 module _ {A : Type 0} where
   -- a filled listing is filled below a path
   pub filled_under : (p : Tag) (l : Listing A) → Filled l → Filled (under p l)
+  filled_under p [] h = elim h [ ]
   filled_under p (e ∷ l) h = tt
 
   filled_append : (l m : Listing A) → Filled l → Filled (l ++ m)
+  filled_append [] m h = elim h [ ]
   filled_append (e ∷ l) m h = tt
 
   two_append : (l m : Listing A) → Filled l → Filled m → Two (l ++ m)
+  two_append (e ∷ []) [] h k = elim k [ ]
+  two_append [] m h k = elim h [ ]
   two_append (e ∷ []) (x ∷ m) h k = tt
   two_append (e ∷ e' ∷ l) m h k = tt
 
   two_under : (p : Tag) (l : Listing A) → Two l → Two (under p l)
+  two_under p (e ∷ []) h = elim h [ ]
+  two_under p [] h = elim h [ ]
   two_under p (e ∷ e' ∷ l) h = tt
 
   -- a row of two or more has a child
@@ -50,6 +56,7 @@ module _ {A : Type 0} where
 
     -- and so does a row with a child
     pub some_filled : (r : Row A) → GoodRow r → Some r → Filled (row_contents r)
+    some_filled end g h = elim h [ ]
     some_filled (child b t r) g h = filled_append (under (b ∷ []) (contents t)) (row_contents r) (filled_under (b ∷ []) (contents t) (filled t g.0))
 
   -- ── the shared run ──
@@ -62,16 +69,20 @@ module _ {A : Type 0} where
   shared_with_under p s (e ∷ l) = ap (λ (x : Tag). shared_with x (under p l)) (common_under p s e.0) ∙ shared_with_under p (common s e.0) l
 
   shared_under : (p : Tag) (l : Listing A) → Filled l → shared_run (under p l) ≡ p ++ shared_run l
+  shared_under p [] h = elim h [ ]
   shared_under p (e ∷ l) h = shared_with_under p e.0 l
 
   shared_apart : (b : ℕ) (s : Tag) (l m : Listing A) → Filled m → Every (HeadAbove b) m → shared_with (b ∷ s) (under (b ∷ []) l ++ m) ≡ []
+  shared_apart b s [] [] f h = elim f [ ]
   shared_apart b s [] (e ∷ m) f h = go e.0 h.0
     where
       go : (x : Tag) → HeadAbove b x → shared_with (common (b ∷ s) x) m ≡ []
+      go [] k = elim k [ ]
       go (c ∷ x) k = ap (λ (x : Tag). shared_with x m) (common_apart b c s x (omega arith)) ∙ shared_with_nil m
   shared_apart b s (e ∷ l) m f h = ap (λ (x : Tag). shared_with x (under (b ∷ []) l ++ m)) (common_under (b ∷ []) s e.0) ∙ shared_apart b (common s e.0) l m f h
 
   shared_child : (b : ℕ) (l m : Listing A) → Filled l → Filled m → Every (HeadAbove b) m → shared_run (under (b ∷ []) l ++ m) ≡ []
+  shared_child b [] m f k h = elim f [ ]
   shared_child b (e ∷ l) m f k h = shared_apart b e.0 l m k h
 
   shared_row : (r : Row A) → Many r → GoodRow r → shared_run (row_contents r) ≡ []
@@ -102,6 +113,7 @@ module _ {A : Type 0} where
           pick (no n) = k
 
       go : (x : Tag) → HeadAbove b x → FirstAbove b (add_entry x e.1 (groups m))
+      go [] k = elim k [ ]
       go (c ∷ x) k = at c (x, e.1) (groups m) k
 
   add_apart : (b : ℕ) (e : Tag × A) (gs : Groups A) → FirstAbove b gs → add b e gs ≡ (b, e ∷ []) ∷ gs
@@ -109,12 +121,15 @@ module _ {A : Type 0} where
   add_apart b e (g ∷ gs) h = if_neg (ℕ_discrete b g.0) (omega arith) _ _
 
   groups_child : (b : ℕ) (l m : Listing A) → Filled l → Every (HeadAbove b) m → groups (under (b ∷ []) l ++ m) ≡ (b, l) ∷ groups m
+  groups_child b [] m f h = elim f [ ]
   groups_child b (e ∷ []) m f h = add_apart b e (groups m) (first_above b m h)
   groups_child b (e ∷ e' ∷ l) m f h = rw (groups_child b (e' ∷ l) m tt h) (if_pos (ℕ_discrete b b) refl _ _)
 
   -- ── theorem D ──
   draw_two : (f : ℕ) (p : Tag) (l : Listing A) → Two l → draw_at (suc f) p l
       ≡ branch (length (shared_run l)) (take 8 (shared_run l)) (kids_of (λ b g. draw_at f (p ++ shared_run l ++ b ∷ []) g) (groups (strip (length (shared_run l)) l)))
+  draw_two f p (e ∷ []) h = elim h [ ]
+  draw_two f p [] h = elim h [ ]
   draw_two f p (e ∷ e' ∷ l) h = refl
 
   draw_inner : (f : ℕ) (p run : Tag) (r : Row A) → Many r → GoodRow r → draw_at (suc f) p (under run (row_contents r))
@@ -125,6 +140,7 @@ module _ {A : Type 0} where
       draw_two f p l (two_under run (row_contents r) (two_row r h g)) ∙ rw (e, strip_under run (row_contents r))
 
   none_short : (l : Listing A) → Filled l → Every (λ s. length s < 0) l → ⊥
+  none_short [] f h = elim f [ ]
   none_short (e ∷ l) f h = omega arith
 
   shorter : (b f : ℕ) (l : Listing A) → Every (λ s. length s < suc f) (under (b ∷ []) l) → Every (λ s. length s < f) l

@@ -25,10 +25,12 @@ module _ {A : Type 0} where
   longest_append (e ∷ l) m = omega (arith, longest_append l m)
 
   longest_under : (p : Tag) (l : Listing A) → Filled l → longest (under p l) ≡ length p + longest l
+  longest_under p [] f = elim f [ ]
   longest_under p (e ∷ []) f = omega (arith, length-append p e.0)
   longest_under p (e ∷ e' ∷ l) f = omega (arith, length-append p e.0, longest_under p (e' ∷ l) tt)
 
   some_longest : (r : Row A) → GoodRow r → Some r → 0 < longest (row_contents r)
+  some_longest end g h = elim h [ ]
   some_longest (child b t r) g h = omega (arith, longest_append (under (b ∷ []) (contents t)) (row_contents r), longest_under (b ∷ []) (contents t) (filled t g.0))
 
   mutual

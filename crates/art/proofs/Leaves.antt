@@ -41,6 +41,7 @@ module _ {A : Type 0} where
   mutual
     -- the place of a tree's leaf is one of the tree's places
     pub leaf_spot : (t : Tree A) (n : ℕ) → In n (leaves t) → In (leaf_place n) (spots t)
+    leaf_spot (leaf m s a) n (inr x3) = elim x3 [ ]
     leaf_spot (leaf m s a) n (inl e) = inl (ap leaf_place e)
     leaf_spot (inner k m run r) n h = inr (row_leaf_spot r n h)
 

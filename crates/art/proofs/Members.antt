@@ -7,6 +7,7 @@ use Rattle.art.specs.Members.{In, Different}
 module _ {X : Type 0} where
   -- an element of the first list is one of the two in a row
   pub in_left : (x : X) (l m : List X) → In x l → In x (l ++ m)
+  in_left x [] m x'' = elim x'' [ ]
   in_left x (y ∷ l) m (inl e) = inl e
   in_left x (y ∷ l) m (inr h) = inr (in_left x l m h)
 
@@ -46,5 +47,6 @@ module _ {X : Type 0} where
 
   -- and they share no element
   pub different_apart : (l m : List X) → Different (l ++ m) → (x : X) → In x l → ¬ In x m
+  different_apart [] m h x x5 i = elim x5 [ ]
   different_apart (y ∷ l) m h x (inl e) i = h.0 (in_right y l m (subst (λ (z : X). In z m) e i))
   different_apart (y ∷ l) m h x (inr j) i = different_apart l m h.1 x j i

@@ -103,6 +103,7 @@ module _ {A : Type 0} where
       byte d x f = let g = fits_begins m s (q ++ (d ∷ x)) f in same_byte q q' b d (x ++ g.0) y h (sym e ∙ g.1 ∙ append_assoc q (d ∷ x) g.0)
 
       later : b ≡ c → (x : Tag) → HeadAbove c x → ¬ Fits m s (q ++ x)
+      later i [] hx f = elim hx [ ]
       later i (d ∷ x) hx f = let j = byte d x f in omega arith
 
       go : (d : Dec (b ≡ c)) → ite d (walk (show (q ++ c ∷ []) t) m (suc (length q)) sk s) (walk_row (show_row q r) m b (suc (length q)) sk s) ≡ find m s (kids ++ under q (row_contents r))

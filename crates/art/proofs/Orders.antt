@@ -31,6 +31,7 @@ module _ {A : Type 0} where
   first_under p (e ∷ l) = refl
 
   first_append : (l m : Listing A) → Filled l → first_of (l ++ m) ≡ first_of l
+  first_append [] m f = elim f [ ]
   first_append (e ∷ l) m f = refl
 
   last_under : (p : Tag) (l : Listing A) → last_of (under p l) ≡ last_of l

@@ -87,6 +87,7 @@ module _ {A : Type 0} where
   mutual
     -- every place of a tree is seen after it
     pub seen_spot : (t : Tree A) (z : State) (x : Place) → In x (spots t) → In x (passed t z).seen
+    seen_spot (leaf n s a) z x (inr x6) = elim x6 [ ]
     seen_spot (leaf n s a) z x (inl e) = inl e
     seen_spot (inner k n run r) z x h = seen_spot_inner k n r z x (λ i. row_seen_spot r (marked (inner_place k n) z) x i) h
 
@@ -165,6 +166,7 @@ module _ {A : Type 0} where
   mutual
     -- the store of a tree has a record at each of its places
     pub store_on : (t : Tree A) (p : Tag) (x : Place) → In x (spots t) → Used (store t p x)
+    store_on (leaf n s a) p x (inr x6) = elim x6 [ ]
     store_on (leaf n s a) p x (inl e) = used_write empty (leaf_place n) (leaf_cell (p ++ s) a) x tt (inl e)
     store_on (inner k n run r) p x h = on_inner (store_row r (p ++ run)) k n _ (row_spots r) x tt (λ i. row_store_on r (p ++ run) x i) h
 
@@ -255,6 +257,7 @@ module _ (link : ℕ → ℕ → Bool) where
     mutual
       -- then no place of the tree was seen before
       pub passes_new : (t : Tree A) (z : State) → Passes link t z → (x : Place) → In x (spots t) → ¬ In x z.seen
+      passes_new (leaf n s a) z h x (inr x11) i = elim x11 [ ]
       passes_new (leaf n s a) z h x (inl e) i = h.0 (subst (λ (y : Place). In y z.seen) e i)
       passes_new (inner k n run r) z h x j i = new_inner k n (row_spots r) z.seen x h.0 (λ l m. row_passes_new r (marked (inner_place k n) z) h.1 x l m) j i
 

@@ -12,6 +12,8 @@ use Rattle.art.specs.Puts.{less_dec, Apart, put, keep, alter}
 
 -- a tag that comes before another does not come after it
 pub before_not_less : (t s : Tag) → Before t s → ¬ Less s t
+before_not_less (y ∷ t) [] x5 _ = elim x5 [ ]
+before_not_less [] s x'' _ = elim x'' [ ]
 before_not_less (y ∷ t) (x ∷ s) (inl h) (inl k) = omega arith
 before_not_less (y ∷ t) (x ∷ s) (inl h) (inr k) = omega arith
 before_not_less (y ∷ t) (x ∷ s) (inr h) (inl k) = omega arith

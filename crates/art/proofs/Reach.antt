@@ -61,6 +61,7 @@ module _ {A : Type 0} where
     pub picks : (X : Type 0) (d : X) (F : ℕ → Tree A → X) → at_kid d F x r ≡ F x tree
 
   kid_of : (σ : Store A) (r : Row A) → GoodRow r → (q : Tag) → ShowsRow r q σ → (x : ℕ) → Has x r → Kid σ x r q
+  kid_of σ end g q h x i = elim i [ ]
   kid_of σ (child c t r) g q h x i = go (ℕ_discrete x c) i (λ j. kid_of σ r g.2 q h.1 x j)
     where
       go : Dec (x ≡ c) → (x ≡ c) ⊎ Has x r → (Has x r → Kid σ x r q) → Kid σ x (child c t r) q

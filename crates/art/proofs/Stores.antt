@@ -22,6 +22,7 @@ path_eq p c y w t e = rw e (simp append_assoc)
 module _ {A : Type 0} where
   -- a used cell stands before what it is joined with
   pub or_used : (c d : Cell A) → Used c → or_cell c d ≡ c
+  or_used unused d u = elim u [ ]
   or_used (leaf_cell t a) d u = refl
   or_used (inner_cell n st rs) d u = refl
 

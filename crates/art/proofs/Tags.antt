@@ -9,6 +9,8 @@ use Rattle.art.specs.Tags.{Tag, Before, Less, Begins, Aim, exact, begin, Fits}
 
 -- a tag that comes before another is the lesser
 pub before_less : (s t : Tag) → Before s t → Less s t
+before_less (x ∷ s) [] x4 = elim x4 [ ]
+before_less [] t x' = elim x' [ ]
 before_less (x ∷ s) (y ∷ t) (inl h) = inl h
 before_less (x ∷ s) (y ∷ t) (inr h) = inr (h.0, before_less s t h.1)
 
@@ -19,16 +21,22 @@ before_under (x ∷ p) s t h = inr (refl, before_under p s t h)
 
 -- it does not begin the other
 pub before_not_begins : (s t : Tag) → Before s t → ¬ Begins s t
+before_not_begins (x ∷ s) [] x6 b = elim x6 [ ]
+before_not_begins [] t x'' b = elim x'' [ ]
 before_not_begins (x ∷ s) (y ∷ t) (inl h) b = let e = head-eq_of_cons-eq b.1 in omega arith
 before_not_begins (x ∷ s) (y ∷ t) (inr h) b = before_not_begins s t h.1 (b.0, tail-eq_of_cons-eq b.1)
 
 -- nor does the other begin it
 pub before_not_begun : (s t : Tag) → Before s t → ¬ Begins t s
+before_not_begun (x ∷ s) [] x6 b = elim x6 [ ]
+before_not_begun [] t x'' b = elim x'' [ ]
 before_not_begun (x ∷ s) (y ∷ t) (inl h) b = let e = head-eq_of_cons-eq b.1 in omega arith
 before_not_begun (x ∷ s) (y ∷ t) (inr h) b = before_not_begun s t h.1 (b.0, tail-eq_of_cons-eq b.1)
 
 -- and this says it all: the lesser of two tags comes before the other where it does not begin it
 pub before_of : (s t : Tag) → Less s t → ¬ Begins s t → Before s t
+before_of (x ∷ s) [] h n = elim h [ ]
+before_of [] [] h n = elim h [ ]
 before_of [] (y ∷ t) h n = n (y ∷ t, refl)
 before_of (x ∷ s) (y ∷ t) (inl h) n = inl h
 before_of (x ∷ s) (y ∷ t) (inr h) n = inr (h.0, before_of s t h.1 (λ b. n (b.0, λ i. sym h.0 i ∷ b.1 i)))

@@ -11,6 +11,7 @@ use Rattle.art.specs.Trees.{Tree, Row, leaf, inner, end, child, HeadAbove, conte
 
 -- a tag comes before one that begins with a higher byte
 pub above_before : (b : ℕ) (s t : Tag) → HeadAbove b t → Before (b ∷ s) t
+above_before b s [] h = elim h [ ]
 above_before b s (c ∷ t) h = inl h
 
 module _ {A : Type 0} where

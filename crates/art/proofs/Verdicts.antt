@@ -85,6 +85,7 @@ module _ {A : Type 0} where
   judge_apart s (e ∷ l) h = ap₂ graver (verdict_apart s e.0 (meet s e.0) h.0) (judge_apart s l h.1)
 
   judge_clash : (s : Tag) (l : Listing A) → Filled l → Every (λ t. (z : Tag) × (0 < length z) × (t ≡ s ++ z)) l → judge s l ≡ clash
+  judge_clash s [] f h = elim f [ ]
   judge_clash s (e ∷ []) f h = ap (λ (v : Verdict). graver v free) (verdict_clash s h.0.0 e.0 (meet s e.0) h.0.1 h.0.2)
   judge_clash s (e ∷ e' ∷ l) f h = ap₂ graver (verdict_clash s h.0.0 e.0 (meet s e.0) h.0.1 h.0.2) (judge_clash s (e' ∷ l) tt h.1)
 

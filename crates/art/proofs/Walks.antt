@@ -39,6 +39,7 @@ module _ {A : Type 0} where
   within_left σ τ q u = go (σ q) u
     where
       go : (c : Cell A) → Used c → or_cell c (τ q) ≡ c
+      go unused v = elim v [ ]
       go (leaf_cell t a) v = refl
       go (inner_cell n st rs) v = refl
 
