@@ -39,6 +39,7 @@ one (leaf_cell t a) = 1
 one (inner_cell n st rs) = 1
 
 pub one_used : (c : Cell Held) → Used c → one c ≡ 1
+one_used unused u = elim u [ ]
 one_used (leaf_cell t a) u = refl
 one_used (inner_cell n st rs) u = refl
 

@@ -15,6 +15,10 @@ use Rattle.art.proofs.ReadBack.{some_inj}
 
 -- ── the order ──
 pub less_trans : (s t u : Tag) → Less s t → Less t u → Less s u
+less_trans (x ∷ s) (y ∷ t) [] h k = elim k [ ]
+less_trans (x ∷ s) [] u h k = elim h [ ]
+less_trans [] (y ∷ t) [] h k = elim k [ ]
+less_trans [] [] u h k = elim h [ ]
 less_trans [] (y ∷ t) (z ∷ u) h k = tt
 less_trans (x ∷ s) (y ∷ t) (z ∷ u) (inl h) (inl k) = inl (omega arith)
 less_trans (x ∷ s) (y ∷ t) (z ∷ u) (inl h) (inr k) = inl (omega arith)

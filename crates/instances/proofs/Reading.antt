@@ -60,6 +60,7 @@ missing_C = search_missing two_shown C (tag_bytes C refl) out
   where
     out : (h : Held) → ¬ In (as_entry C h) (entry A 0 7 ∷ entry B 1 8 ∷ [])
     out h (inl e) = let i = same_tag e in let z : ◌≡◌ {A = ℕ} 67 65 = cc in omega arith
+    out h (inr (inr x'')) = elim x'' [ ]
     out h (inr (inl e)) = let i = same_tag e in let z : ◌≡◌ {A = ℕ} 67 66 = cc in omega arith
 
 -- ── prefix search: A begins AB ──
@@ -75,6 +76,7 @@ begun_C = prefix_missing two_shown C (tag_bytes C refl) out
   where
     out : (t : Tag) (h : Held) → In (as_entry t h) (entry A 0 7 ∷ entry B 1 8 ∷ []) → ¬ Begins t C
     out t h (inl e) b = let i = b.1 in let j = same_tag e in let z : ◌≡◌ {A = ℕ} 67 65 = cc in omega arith
+    out t h (inr (inr x3)) b = elim x3 [ ]
     out t h (inr (inl e)) b = let i = b.1 in let j = same_tag e in let z : ◌≡◌ {A = ℕ} 67 66 = cc in omega arith
 
 -- ── never damaged ──

@@ -28,6 +28,8 @@ use Rattle.reading.proofs.Walks.{find_shown}
 -- ── what a sorted listing finds ──
 -- of two tags, one before the other, not both begin the same bytes
 not_both : (a b t : Tag) → Before a b → Begins a t → ¬ Begins b t
+not_both (x ∷ a) [] t h i j = elim h [ ]
+not_both [] b t h i j = elim h [ ]
 not_both (x ∷ a) (y ∷ b) [] h i j = let e = i.1 in let z : ◌≡◌ {A = ℕ} 0 1 = cc in omega arith
 not_both (x ∷ a) (y ∷ b) (z ∷ t) (inl l) i j =
     let e = i.1 in
@@ -44,6 +46,7 @@ not_both (x ∷ a) (y ∷ b) (z ∷ t) (inr k) i j =
 
 module _ {A : Type 0} where
   every_in : (P : Tag → Type 0) (e : Tag × A) (l : Listing A) → Every P l → In e l → P e.0
+  every_in P e [] h x'' = elim x'' [ ]
   every_in P e (x ∷ l) h (inl i) = subst (λ (y : Tag × A). P y.0) (sym i) h.0
   every_in P e (x ∷ l) h (inr i) = every_in P e l h.1 i
 
@@ -59,6 +62,7 @@ module _ {A : Type 0} where
 
   -- and what is held for a tag that fits is found: only one does
   in_found : (m : art.Aim) (s t : Tag) (a : A) (l : Listing A) → Sorted l → Fits m s t → In (t, a) l → find m s l ≡ some a
+  in_found m s t a [] h k x3 = elim x3 [ ]
   in_found m s t a (e ∷ l) h k (inl i) =
       if_pos (fits_dec m s e.0) (subst (λ (y : Tag × A). Fits m s y.0) i k) (some e.1) (find m s l) ∙ ap (λ (y : Tag × A). some y.1) (sym i)
   in_found m s t a (e ∷ l) h k (inr i) =

@@ -56,6 +56,7 @@ module _ {A : Type 0} where
 
   -- a good tree has a last leaf
   last_else : (l : Listing A) → Filled l → (o : Option A) → or_else (last_of l) o ≡ last_of l
+  last_else [] h o = elim h [ ]
   last_else (e ∷ l) h o = go (last_of l)
     where
       go : (x : Option A) → or_else (or_else x (some e.1)) o ≡ or_else x (some e.1)

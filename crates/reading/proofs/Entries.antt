@@ -39,6 +39,7 @@ use Rattle.reading.specs.Shown.{Shown}
 -- ── a store that shows a tree has each entry of its listing in a leaf ──
 module _ {A : Type 0} where
   in_under : (p : Tag) (l : Listing A) (e : Tag × A) → In e (under p l) → (x : Tag × A) × (e ≡ (p ++ x.0, x.1)) × In x l
+  in_under p [] e x' = elim x' [ ]
   in_under p (y ∷ l) e (inl i) = (y, i, inl refl)
   in_under p (y ∷ l) e (inr i) = let u = in_under p l e i in (u.0, u.1, inr u.2)
 
@@ -62,6 +63,7 @@ module _ {A : Type 0} where
 
     mutual
       stored_entry : (t : Tree A) (p : Tag) → Numbered number t → Shows t p σ → (e : Tag × A) → In e (contents t) → Stored p e
+      stored_entry (leaf n s a) p m h e (inr x7) = elim x7 [ ]
       stored_entry (leaf n s a) p m h e (inl i) = subst (Stored p) (sym i) (ap (λ (n : ℕ). σ (leaf_place n)) m ∙ h)
       stored_entry (inner k n run r) p m h e i =
           let u = in_under run (row_contents r) e i in

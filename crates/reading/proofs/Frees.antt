@@ -42,6 +42,7 @@ module _ {A : Type 0} where
   -- a leaf's place among a tree's places is that of one of its leaves
   mutual
     spot_leaf : (t : Tree A) (n : ℕ) → In (leaf_place n) (spots t) → In n (leaves t)
+    spot_leaf (leaf m s a) n (inr h) = elim h [ ]
     spot_leaf (leaf m s a) n (inl e) = inl (let q : n ≡ m = cc in q)
     spot_leaf (inner k m run r) n (inl e) = absurd (let z : ◌≡◌ {A = ℕ} 0 1 = cc in omega arith)
     spot_leaf (inner k m run r) n (inr h) = spot_row r n h
@@ -55,6 +56,7 @@ module _ {A : Type 0} where
   store_free (some t) n h = store_off t [] (leaf_place n) (λ i. h (spot_leaf t n i))
 
 free_number : (n : ℕ) (l : Listing Held) → Free n l → ¬ In n (numbers (λ (h : Held). h.number) l)
+free_number n [] h x'' = elim x'' [ ]
 free_number n (e ∷ l) h (inl i) = h e (inl refl) (sym i)
 free_number n (e ∷ l) h (inr i) = free_number n l (λ x j. h x (inr j)) i
 

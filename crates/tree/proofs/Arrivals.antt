@@ -26,13 +26,11 @@ use Rattle.tree.specs.declared.arrive.Arrival.{Arrival}
 use Rattle.tree.specs.declared.arrive.Arrival.TheVariants.{Leaf, Inner, Broken}
 
 -- ── what a test of `!b` says of what b tells ──
-pub fails : {b v : Bool} → b ≡ v → not b ≡ true → v ≡ false
-fails {b = true} e n = sym e ∙ sym n
-fails {b = false} e n = sym e
+pub fails : {b v : Bool} → b ≡ v → b ≡ false → v ≡ false
+fails e n = sym e ∙ n
 
-pub holds : {b v : Bool} → b ≡ v → not b ≡ false → v ≡ true
-holds {b = true} e n = sym e
-holds {b = false} e n = sym e ∙ sym n
+pub holds : {b v : Bool} → b ≡ v → b ≡ true → v ≡ true
+holds e n = sym e ∙ n
 
 -- ── the place that a reference names, by its kind ──
 pub leaf_named : (ref : ℕ) → ref % 8 ≡ 5 → place_at ref ≡ leaf_place (ref / 8)

@@ -1,5 +1,6 @@
 -- `directory_c::directory_start` meets its contract: the number of start's answer, and the slices as start leaves them.
 use mathlib.Core.Path.{ap, ◌∙◌}
+use mathlib.Core.List.{[]}
 use Rattle.pools.specs.Start.{Out, start_number}
 use Rattle.directory_c.specs.Numbers.{lent}
 use Rattle.directory_c.proofs.Promises.{does}

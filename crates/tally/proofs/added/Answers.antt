@@ -10,11 +10,11 @@ unfolding added_of
 made t x l k e f = λ i. record { count = t.count + 1; low = e i; carries = f i }
 
 pub returns-then-low-total : goal.returns-then-low-total
-returns-then-low-total c = let s = c.args in
-    let e = c.wrapping_add_u64-low.ensures in
-    made s.t s.total _ _ e (omega (arith, e, c.struct_known-then-low-total-1.given.1.0, c.if-low-total.true, c.ranges.total))
+returns-then-low-total c =
+    let e = c.wrapping_add_u64-low.ensures.value in
+    made c.args.t c.args.total _ _ e (omega (arith, e, c.if-low-total.true, c.ranges.total))
 
 pub returns : goal.returns
-returns c = let s = c.args in
-    let e = c.wrapping_add_u64-low.ensures in
-    made s.t s.total _ _ e (omega (arith, e, c.struct_known-2-1.given.1.0, c.if-low-total.false, c.ranges.total))
+returns c =
+    let e = c.wrapping_add_u64-low.ensures.value in
+    made c.args.t c.args.total _ _ e (omega (arith, e, c.if-low-total.false, c.ranges.total))

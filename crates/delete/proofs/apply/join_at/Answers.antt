@@ -42,4 +42,4 @@ returns c = let a = c.args in
     let h = combined_here a.f a.words.now a.child c.if-child-eq-LEAF.false c.requires.1.1.0 in
     let words = a.words.now in
     let out = c.set_prefix_at in
-    (out.ensures ∙ ap (λ p. prefixed_at a.f (place_at a.child) p words) (c.merge-joined.ensures ∙ ap₂ (λ p q. merge_of p a.byte q) c.prefix_of-p.ensures c.prefix_of-q.ensures) ∙ combined_inner a.f words a.child (place_at a.reference) a.byte c.if-child-eq-LEAF.false, prefixed_kept c.requires.0 out.new.0 out.auto.0 (place_at a.child) h.pool c.merge-joined.result out.ensures)
+    (out.ensures ∙ ap (λ p. prefixed_at a.f (place_at a.child) p words) (c.merge-joined.ensures ∙ ap₂ (λ p q. merge_of p a.byte q) c.prefix_of-p.ensures c.prefix_of-q.ensures) ∙ combined_inner a.f words a.child (place_at a.reference) a.byte c.if-child-eq-LEAF.false, prefixed_kept c.requires.0 out.new.words out.auto.words (place_at a.child) h.pool c.merge-joined.result out.ensures)

@@ -15,7 +15,7 @@ link_up-requires c = let a = c.args in
     let m = c.join_at in
     let w1 = m.ensures.1 in
     let k = c.clear_at in
-    let w2 = clear_kept w1 k.new.0 k.auto.0 (place_at a.reference) g.here.pool k.ensures in
+    let w2 = clear_kept w1 k.new.words k.auto.words (place_at a.reference) g.here.pool k.ensures in
     let made = k.ensures ∙ ap (clear_at a.f (place_at a.reference)) m.ensures.0 in
     let above = subst (λ l. UpThere a.f l a.upper) (sym made) g.above in
     (w2, above)
@@ -27,8 +27,8 @@ returns c = let a = c.args in
     let m = c.join_at in
     let w1 = m.ensures.1 in
     let k = c.clear_at in
-    let w2 = clear_kept w1 k.new.0 k.auto.0 (place_at a.reference) g.here.pool k.ensures in
+    let w2 = clear_kept w1 k.new.words k.auto.words (place_at a.reference) g.here.pool k.ensures in
     let made = k.ensures ∙ ap (clear_at a.f (place_at a.reference)) m.ensures.0 in
     let above = subst (λ l. UpThere a.f l a.upper) (sym made) g.above in
     let up = c.link_up in
-    (up.ensures ∙ ap (link_up a.f a.upper a.child) made, linked_kept w2 up.new.0 up.auto.0 a.upper above a.child up.ensures)
+    (up.ensures ∙ ap (link_up a.f a.upper a.child) made, linked_kept w2 up.new.words up.auto.words a.upper above a.child up.ensures)

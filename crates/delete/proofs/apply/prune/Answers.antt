@@ -14,7 +14,7 @@ pub returns-in-Root : goal.returns-in-Root
 unfolding pruned
 returns-in-Root c = let a = c.args in
     let out = c.set_trailer in
-    (out.ensures ∙ sym (ap (λ x. pruned a.f x a.words.now) c.in-Root.is), root_kept c.requires.0 out.new.0 out.auto.0 0 out.ensures)
+    (out.ensures ∙ sym (ap (λ x. pruned a.f x a.words.now) c.in-Root.is), root_kept c.requires.0 out.new.words out.auto.words 0 out.ensures)
 
 pub change_at-requires : goal.change_at-requires
 change_at-requires c = let a = c.args in
@@ -25,7 +25,7 @@ unfolding pruned
 returns-in-Stay c = let a = c.args in
     let out = c.change_at in
     let r = subst (CutReady a.f a.words.now) c.in-Stay.is c.requires.1 in
-    (out.ensures ∙ sym (ap (λ x. pruned a.f x a.words.now) c.in-Stay.is), change_kept c.requires.0 out.new.0 out.auto.0 _ r.here.pool _ Remove out.ensures)
+    (out.ensures ∙ sym (ap (λ x. pruned a.f x a.words.now) c.in-Stay.is), change_kept c.requires.0 out.new.words out.auto.words _ r.here.pool _ Remove out.ensures)
 
 pub shrink-requires : goal.shrink-requires
 shrink-requires c = let a = c.args in

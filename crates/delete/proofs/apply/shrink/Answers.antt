@@ -13,7 +13,7 @@ pub clear_at-requires : goal.clear_at-requires
 clear_at-requires c = let a = c.args in
     let g = c.requires.1 in
     let m = c.drop_at in
-    let w1 = drop_kept c.requires.0 m.new.0 m.auto.0 (place_at a.old) (place_at a.new) g.drops.to.pool a.byte m.ensures in
+    let w1 = drop_kept c.requires.0 m.new.words m.auto.words (place_at a.old) (place_at a.new) g.drops.to.pool a.byte m.ensures in
     (w1, here_place g.drops.from.here)
 
 pub link_up-requires : goal.link_up-requires
@@ -21,9 +21,9 @@ unfolding shrunk
 link_up-requires c = let a = c.args in
     let g = c.requires.1 in
     let m = c.drop_at in
-    let w1 = drop_kept c.requires.0 m.new.0 m.auto.0 (place_at a.old) (place_at a.new) g.drops.to.pool a.byte m.ensures in
+    let w1 = drop_kept c.requires.0 m.new.words m.auto.words (place_at a.old) (place_at a.new) g.drops.to.pool a.byte m.ensures in
     let k = c.clear_at in
-    let w2 = clear_kept w1 k.new.0 k.auto.0 (place_at a.old) g.drops.from.here.pool k.ensures in
+    let w2 = clear_kept w1 k.new.words k.auto.words (place_at a.old) g.drops.from.here.pool k.ensures in
     let made = k.ensures ∙ ap (clear_at a.f (place_at a.old)) m.ensures in
     let above = subst (λ l. UpThere a.f l a.upper) (sym made) g.above in
     (w2, above)
@@ -33,10 +33,10 @@ unfolding shrunk
 returns c = let a = c.args in
     let g = c.requires.1 in
     let m = c.drop_at in
-    let w1 = drop_kept c.requires.0 m.new.0 m.auto.0 (place_at a.old) (place_at a.new) g.drops.to.pool a.byte m.ensures in
+    let w1 = drop_kept c.requires.0 m.new.words m.auto.words (place_at a.old) (place_at a.new) g.drops.to.pool a.byte m.ensures in
     let k = c.clear_at in
-    let w2 = clear_kept w1 k.new.0 k.auto.0 (place_at a.old) g.drops.from.here.pool k.ensures in
+    let w2 = clear_kept w1 k.new.words k.auto.words (place_at a.old) g.drops.from.here.pool k.ensures in
     let made = k.ensures ∙ ap (clear_at a.f (place_at a.old)) m.ensures in
     let above = subst (λ l. UpThere a.f l a.upper) (sym made) g.above in
     let up = c.link_up in
-    (up.ensures ∙ ap (link_up a.f a.upper a.new) made, linked_kept w2 up.new.0 up.auto.0 a.upper above a.new up.ensures)
+    (up.ensures ∙ ap (link_up a.f a.upper a.new) made, linked_kept w2 up.new.words up.auto.words a.upper above a.new up.ensures)

@@ -10,8 +10,8 @@ slice_bounds-copy-end-else-form-eq8 c = omega (arith, two_words c.args.form c.re
 
 pub returns-then-form-eq8 : goal.returns-then-form-eq8
 unfolding splice
-returns-then-form-eq8 c = laid_plain c.args.form c.if-form-eq8.true c.args.rec.now c.args.t3 c.copy.new.to c.copy.ensures
+returns-then-form-eq8 c = laid_plain c.args.form c.if-form-eq8.true c.args.rec.now c.args.stored c.copy.new.to c.copy.ensures
 
 pub returns-else-form-eq8 : goal.returns-else-form-eq8
 unfolding splice
-returns-else-form-eq8 c = laid_packed c.args.form (two_words c.args.form c.requires.0 c.if-form-eq8.false) c.args.rec.now c.args.t3 c.copy-else-form-eq8.new.to (c.copy-else-form-eq8.ensures ∙ c.pack-two.ensures)
+returns-else-form-eq8 c = laid_packed c.args.form (two_words c.args.form c.requires.0 c.if-form-eq8.false) c.args.rec.now c.args.stored c.copy-else-form-eq8.new.to (c.copy-else-form-eq8.ensures ∙ c.pack-two.ensures)

@@ -20,7 +20,7 @@ direct_set-requires c = (omega arith, (direct_fits c.requires.0 c.in-4.is).0)
 
 pub sorted_change-requires : goal.sorted_change-requires
 sorted_change-requires c = let w = c.requires.0 in
-    let low = kind_rest w.high c.in_default.rest.0.1 c.in_default.rest.1 in
+    let low = kind_rest w.high c.in_default.in_default-own.rest.0.1 c.in_default.in_default-own.rest.1 in
     let k = ap (λ (r : KindRow). r.children) c.row_of-row.ensures in
     (omega (arith, k, (sorted_fits w low).0, w.few), needs_as (λ r. omega (arith, k, r)) (λ h. sorted_room w c.args.byte h low) c.args.change c.requires.1)
 
@@ -35,5 +35,5 @@ returns-in-4 c = let a = c.args in
 
 pub returns-in_default : goal.returns-in_default
 unfolding body_change
-returns-in_default c = let low = kind_rest c.requires.0.high c.in_default.rest.0.1 c.in_default.rest.1 in
+returns-in_default c = let low = kind_rest c.requires.0.high c.in_default.in_default-own.rest.0.1 c.in_default.in_default-own.rest.1 in
     simp (le-leb _ _ low, ← (ap (λ (c : KindRow). c.children) c.row_of-row.ensures), c.sorted_change.ensures)

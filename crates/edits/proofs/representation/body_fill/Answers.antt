@@ -19,7 +19,7 @@ pub direct_fill-requires : goal.direct_fill-requires
 direct_fill-requires c = ap length c.requires.0.1 ∙ length-replicate _ 0 ∙ kind_4 c.args.kind c.in-4.is
 
 pub sorted_fill-requires : goal.sorted_fill-requires
-sorted_fill-requires c = let low = kind_rest c.requires.0.0.1 c.in_default.rest.0.1 c.in_default.rest.1 in
+sorted_fill-requires c = let low = kind_rest c.requires.0.0.1 c.in_default.in_default-own.rest.0.1 c.in_default.in_default-own.rest.1 in
     let e = ap (λ (r : KindRow). r.children) c.row_of-row.ensures in
     ((c.requires.0.1 ∙ ap (λ n. replicate n 0) (sorted_words c.args.kind c.requires.0.0.0 low) ∙ ap (λ k. replicate (k + k) 0) (sym e), c.requires.1.0), omega (arith, e, c.requires.1.1))
 
@@ -33,5 +33,5 @@ returns-in-4 c = rw c.in-4.is (c.direct_fill.ensures ∙ table_own c.args.places
 
 pub returns-in_default : goal.returns-in_default
 unfolding body_of
-returns-in_default c = let low = kind_rest c.requires.0.0.1 c.in_default.rest.0.1 c.in_default.rest.1 in
+returns-in_default c = let low = kind_rest c.requires.0.0.1 c.in_default.in_default-own.rest.0.1 c.in_default.in_default-own.rest.1 in
     simp (le-leb _ _ low, ← (ap (λ (c : KindRow). c.children) c.row_of-row.ensures), c.sorted_fill.ensures)

@@ -16,7 +16,7 @@ direct_spread-requires c = (direct_fits c.requires c.in-4.is).0
 
 pub sorted_spread-requires : goal.sorted_spread-requires
 sorted_spread-requires c = let w = c.requires in
-    let low = kind_rest w.high c.in_default.rest.0.1 c.in_default.rest.1 in
+    let low = kind_rest w.high c.in_default.in_default-own.rest.0.1 c.in_default.in_default-own.rest.1 in
     let e = ap (λ (r : KindRow). r.children) c.row_of-row.ensures in
     let f = sorted_fits w low in
     (omega (arith, e, f.0, w.few), rw e f.1)
@@ -31,5 +31,5 @@ returns-in-4 c = rw c.in-4.is c.direct_spread.ensures
 
 pub returns-in_default : goal.returns-in_default
 unfolding body_spread
-returns-in_default c = let low = kind_rest c.requires.high c.in_default.rest.0.1 c.in_default.rest.1 in
+returns-in_default c = let low = kind_rest c.requires.high c.in_default.in_default-own.rest.0.1 c.in_default.in_default-own.rest.1 in
     simp (le-leb _ _ low, ← (ap (λ (r : KindRow). r.children) c.row_of-row.ensures), c.sorted_spread.ensures)

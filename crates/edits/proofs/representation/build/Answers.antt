@@ -14,4 +14,4 @@ overflow_cast-n c = omega (arith, c.count_nonzero-n.ensures, c.requires.1.1.1, (
 
 pub returns : goal.returns
 unfolding splice
-returns c = built c.args.form c.args.kind c.clear.new.s (length c.args.rec.now) c.header_of-h.result c.record_words-e.result c.clear.ensures c.requires.0.1 c.header_of-h.ensures.0 c.record_words-e.ensures.0 c.requires.1.0.0 c.args.p c.args.t5 c.body_fill.new.body c.count_nonzero-n.result c.count_nonzero-n.ensures c.body_fill.ensures c.set_head.ensures
+returns c = built c.args.form c.args.kind c.clear.new.s (length c.args.rec.now) c.header_of-h.result c.record_words-e.result c.clear.ensures c.requires.0.1 c.header_of-h.ensures.0 c.record_words-e.ensures.0 c.requires.1.0.0 c.args.p c.args.places c.body_fill.new.body c.count_nonzero-n.result c.count_nonzero-n.ensures c.body_fill.ensures c.set_head.ensures

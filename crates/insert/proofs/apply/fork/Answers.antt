@@ -16,9 +16,9 @@ pub branch_at-requires : goal.branch_at-requires
 branch_at-requires c = ((search, search), (search fork_stored, (search fork_parts, (search, search pool_some))))
 
 pub link_up-requires : goal.link_up-requires
-link_up-requires c = let ready = (start c).requires.1.0 in
+link_up-requires c = let ready = c.requires.1.0 in
     (search (fork_kept ready), search (fork_above ready))
 
 pub returns : goal.returns
-returns c = let ready = (start c).requires.1.0 in
+returns c = let ready = c.requires.1.0 in
     (search (fork_linked ready), search (fork_framed ready))

@@ -1,7 +1,7 @@
 use Prim.Native.Nat.{◌-◌}
 use mathlib.Core.Path.{sym, ◌∙◌}
-use borrow.Author.Tests.{eqb-true, eqb-false, eq-eqb, ne_eqb}
 use Rattle.lists.proofs.Compares.{shared_start, shared_on, shared_off, shared_end, shared_out}
+use borrow.Author.Tests.{eq-eqb, ne_eqb}
 use borrow.Author.Rules.{rules}
 use Rattle.lists.proofs.compare.shared_words.Goals as goal
 
@@ -9,10 +9,10 @@ pub loop-i-init : goal.loop-i-init
 loop-i-init c = shared_start
 
 pub loop-i-preserved : goal.loop-i-preserved
-loop-i-preserved c = shared_on c.loop-i.invariant (eq-eqb _ _ (eqb-true _ _ c.if-s-i.true ∙ c.wide.ensures)) (search rules) (search rules)
+loop-i-preserved c = shared_on c.loop-i.invariant (eq-eqb _ _ (c.if-s-i.true ∙ c.wide.ensures)) (search rules) (search rules)
 
 pub returns-else-s-i : goal.returns-else-s-i
-returns-else-s-i c = shared_off c.loop-i.invariant (ne_eqb _ _ (λ e. eqb-false _ _ c.if-s-i.false (e ∙ sym c.wide.ensures))) (search rules) (search rules)
+returns-else-s-i c = shared_off c.loop-i.invariant (ne_eqb _ _ (λ e. c.if-s-i.false (e ∙ sym c.wide.ensures))) (search rules) (search rules)
 
 pub returns-else-i-t : goal.returns-else-i-t
 returns-else-i-t c = shared_out c.loop-i.invariant (search rules)

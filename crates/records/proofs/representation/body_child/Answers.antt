@@ -14,7 +14,7 @@ pub bounds-body-byte : goal.bounds-body-byte
 bounds-body-byte c = omega (arith, kind_4 c.args.kind c.in-4.is)
 
 pub sorted_child-requires : goal.sorted_child-requires
-sorted_child-requires c = let low = kind_rest c.requires.0.1 c.in_default.rest.0.1 c.in_default.rest.1 in
+sorted_child-requires c = let low = kind_rest c.requires.0.1 c.in_default.in_default-own.rest.0.1 c.in_default.in_default-own.rest.1 in
     omega (arith, ap (λ (r : KindRow). r.children) c.row_of-row.ensures, sorted_words c.args.kind c.requires.0.0 low)
 
 pub returns-in-3 : goal.returns-in-3
@@ -27,5 +27,5 @@ returns-in-4 c = rw c.in-4.is refl
 
 pub returns-in_default : goal.returns-in_default
 unfolding child_of
-returns-in_default c = let low = kind_rest c.requires.0.1 c.in_default.rest.0.1 c.in_default.rest.1 in
+returns-in_default c = let low = kind_rest c.requires.0.1 c.in_default.in_default-own.rest.0.1 c.in_default.in_default-own.rest.1 in
     simp (le-leb _ _ low, ← (ap (λ (r : KindRow). r.children) c.row_of-row.ensures), c.sorted_child.ensures)

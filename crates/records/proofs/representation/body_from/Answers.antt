@@ -15,7 +15,7 @@ pub direct_from-requires : goal.direct_from-requires
 direct_from-requires c = (c.requires.0, (direct_fits c.requires.1 c.in-4.is).0)
 
 pub sorted_from-requires : goal.sorted_from-requires
-sorted_from-requires c = let low = kind_rest c.requires.1.high c.in_default.rest.0.1 c.in_default.rest.1 in
+sorted_from-requires c = let low = kind_rest c.requires.1.high c.in_default.in_default-own.rest.0.1 c.in_default.in_default-own.rest.1 in
     omega (arith, c.requires.1.few, sorted_fits c.requires.1 low, ap (λ (r : KindRow). r.children) c.row_of-row.ensures)
 
 pub returns-in-3 : goal.returns-in-3
@@ -28,5 +28,5 @@ returns-in-4 c = rw c.in-4.is c.direct_from.ensures
 
 pub returns-in_default : goal.returns-in_default
 unfolding body_row
-returns-in_default c = let low = kind_rest c.requires.1.high c.in_default.rest.0.1 c.in_default.rest.1 in
+returns-in_default c = let low = kind_rest c.requires.1.high c.in_default.in_default-own.rest.0.1 c.in_default.in_default-own.rest.1 in
     simp (le-leb _ _ low, ← (ap (λ (r : KindRow). r.children) c.row_of-row.ensures), c.sorted_from.ensures)

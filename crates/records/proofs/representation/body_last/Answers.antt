@@ -16,7 +16,7 @@ pub direct_last-requires : goal.direct_last-requires
 direct_last-requires c = (direct_fits c.requires.1 c.in-4.is).0
 
 pub sorted_entry-requires : goal.sorted_entry-requires
-sorted_entry-requires c = let low = kind_rest c.requires.1.high c.in_default.rest.0.1 c.in_default.rest.1 in
+sorted_entry-requires c = let low = kind_rest c.requires.1.high c.in_default.in_default-own.rest.0.1 c.in_default.in_default-own.rest.1 in
     omega (arith, c.requires.1.few, sorted_fits c.requires.1 low, ap (λ (r : KindRow). r.children) c.row_of-row.ensures)
 
 pub returns-in-3 : goal.returns-in-3
@@ -29,7 +29,7 @@ returns-in-4 c = rw c.in-4.is c.direct_last.ensures
 
 pub returns-in_default : goal.returns-in_default
 unfolding body_row
-returns-in_default c = let low = kind_rest c.requires.1.high c.in_default.rest.0.1 c.in_default.rest.1 in
+returns-in_default c = let low = kind_rest c.requires.1.high c.in_default.in_default-own.rest.0.1 c.in_default.in_default-own.rest.1 in
     let a = c.args in
     let k = ap (λ (r : KindRow). r.children) c.row_of-row.ensures in
     simp (le-leb _ _ low, ← k) (c.sorted_entry.ensures ∙ sym (sorted_last c.row_of-row.result.children a.body.now a.n (omega (arith, sorted_fits c.requires.1 low, k)) (omega (arith, c.requires.1.few, k))))

@@ -15,7 +15,7 @@ pub direct_nth-requires : goal.direct_nth-requires
 direct_nth-requires c = (direct_fits c.requires c.in-4.is).0
 
 pub sorted_entry-requires : goal.sorted_entry-requires
-sorted_entry-requires c = let low = kind_rest c.requires.high c.in_default.rest.0.1 c.in_default.rest.1 in
+sorted_entry-requires c = let low = kind_rest c.requires.high c.in_default.in_default-own.rest.0.1 c.in_default.in_default-own.rest.1 in
     omega (arith, c.requires.few, sorted_fits c.requires low, ap (λ (r : KindRow). r.children) c.row_of-row.ensures)
 
 pub returns-in-3 : goal.returns-in-3
@@ -28,5 +28,5 @@ returns-in-4 c = rw c.in-4.is c.direct_nth.ensures
 
 pub returns-in_default : goal.returns-in_default
 unfolding body_row
-returns-in_default c = let low = kind_rest c.requires.high c.in_default.rest.0.1 c.in_default.rest.1 in
+returns-in_default c = let low = kind_rest c.requires.high c.in_default.in_default-own.rest.0.1 c.in_default.in_default-own.rest.1 in
     simp (le-leb _ _ low, ← (ap (λ (r : KindRow). r.children) c.row_of-row.ensures), c.sorted_entry.ensures)

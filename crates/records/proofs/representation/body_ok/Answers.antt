@@ -14,7 +14,7 @@ pub direct_ok-requires : goal.direct_ok-requires
 direct_ok-requires c = omega (arith, kind_4 c.args.kind c.in-4.is)
 
 pub sorted_ok-requires : goal.sorted_ok-requires
-sorted_ok-requires c = let low = kind_rest c.requires.0.1 c.in_default.rest.0.1 c.in_default.rest.1 in
+sorted_ok-requires c = let low = kind_rest c.requires.0.1 c.in_default.in_default-own.rest.0.1 c.in_default.in_default-own.rest.1 in
     omega (arith, ap (λ (r : KindRow). r.children) c.row_of-row.ensures, sorted_words c.args.kind c.requires.0.0 low)
 
 pub returns-in-3 : goal.returns-in-3
@@ -27,5 +27,5 @@ returns-in-4 c = rw c.in-4.is c.direct_ok.ensures
 
 pub returns-in_default : goal.returns-in_default
 unfolding body_ok
-returns-in_default c = let low = kind_rest c.requires.0.1 c.in_default.rest.0.1 c.in_default.rest.1 in
+returns-in_default c = let low = kind_rest c.requires.0.1 c.in_default.in_default-own.rest.0.1 c.in_default.in_default-own.rest.1 in
     simp (le-leb _ _ low, ← (ap (λ (r : KindRow). r.children) c.row_of-row.ensures), c.sorted_ok.ensures)
