@@ -88,4 +88,4 @@ leads_on p {b} {k} y c h r = go c h (number_by p c (lent b r)) refl
 -- so any calls lead to a block with its story
 pub all_reached : {b : Block} {k : Ledger} → Reached (seen run) b k → (ts : List Turn) → AllBytes ts → (k' : Ledger) × Reached (seen run) (after_all b ts) k'
 all_reached {b} {k} y [] h = (k, y)
-all_reached y (t ∷ ts) h = all_reached (leads_on (seen run) y t.call h.0 t.scratch).1 ts h.1
+all_reached {b = b} {k = k} y (t ∷ ts) h = all_reached {b = next_by (seen run) b t.call t.scratch} (leads_on (seen run) y t.call h.0 t.scratch).1 ts h.1

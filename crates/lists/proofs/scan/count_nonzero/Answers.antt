@@ -10,9 +10,9 @@ loop-i-init c = count_start
 
 pub loop-i-preserved : goal.loop-i-preserved
 loop-i-preserved c =
-    elim c.if-s-i-gt0.branch
-    [ then-s-i-gt0 w ↦ rw w.n-is (count_on c.loop-i.invariant (lt-ltb _ _ w.if-s-i-gt0.true) (search rules))
-    | else-s-i-gt0 w ↦ rw w.n-is (count_off c.loop-i.invariant (le-ltb _ _ w.if-s-i-gt0.false) (search rules))
+    elim c.if-s-i-gt0.branch [
+      | then-s-i-gt0 w ↦ rw w.n-is (count_on c.loop-i.invariant (lt-ltb _ _ w.if-s-i-gt0.true) (search rules))
+      | else-s-i-gt0 w ↦ rw w.n-is (count_off c.loop-i.invariant (le-ltb _ _ w.if-s-i-gt0.false) (search rules))
     ]
 
 pub returns : goal.returns

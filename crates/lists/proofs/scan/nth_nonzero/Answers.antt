@@ -14,9 +14,9 @@ returns-then-left-eq0 c = nth_at c.loop-i.invariant (lt-ltb _ _ c.if-s-i-gt0.tru
 
 pub loop-i-preserved : goal.loop-i-preserved
 loop-i-preserved c =
-    elim c.if-s-i-gt0.branch
-    [ then-s-i-gt0+else-left-eq0 w ↦ rw w.left-is (nth_on c.loop-i.invariant (lt-ltb _ _ w.if-s-i-gt0.true) (omega (arith, w.if-left-eq0.false)) (search rules))
-    | else-s-i-gt0 w ↦ rw w.left-is (nth_off c.loop-i.invariant (le-ltb _ _ w.if-s-i-gt0.false) (search rules))
+    elim c.if-s-i-gt0.branch [
+      | then-s-i-gt0+else-left-eq0 w ↦ rw w.left-is (nth_on c.loop-i.invariant (lt-ltb _ _ w.if-s-i-gt0.true) (omega (arith, w.if-left-eq0.false)) (search rules))
+      | else-s-i-gt0 w ↦ rw w.left-is (nth_off c.loop-i.invariant (le-ltb _ _ w.if-s-i-gt0.false) (search rules))
     ]
 
 pub returns : goal.returns
