@@ -1,4 +1,3 @@
-use Prim.Native.Nat.{◌-◌}
 use native.Mathlib.Omega.{arith}
 use Rattle.frames.proofs.KindFor.{past_start, past_at, past_on, past_end}
 use Rattle.frames.proofs.kind.kind_for.Goals as goal

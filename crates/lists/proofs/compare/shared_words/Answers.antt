@@ -1,4 +1,3 @@
-use Prim.Native.Nat.{◌-◌}
 use mathlib.Core.Path.{sym, ◌∙◌}
 use Rattle.lists.proofs.Compares.{shared_start, shared_on, shared_off, shared_end, shared_out}
 use borrow.Author.Tests.{eq-eqb, ne_eqb}

@@ -1,4 +1,3 @@
-use Prim.Native.Nat.{◌-◌}
 use mathlib.Core.Path.{refl}
 use Rattle.lists.proofs.Edits.{rest_start, rest_on, rest_end, shift_in_start}
 use borrow.Author.Rules.{rules}

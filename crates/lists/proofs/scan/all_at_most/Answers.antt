@@ -1,4 +1,3 @@
-use Prim.Native.Nat.{◌-◌}
 use borrow.Author.Rules.{rules}
 use Rattle.lists.proofs.Scans.{all_start, all_on, all_end}
 use Rattle.lists.proofs.scan.all_at_most.Goals as goal

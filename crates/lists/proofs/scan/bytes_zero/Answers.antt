@@ -1,4 +1,3 @@
-use Prim.Native.Nat.{◌-◌}
 use borrow.Author.Rules.{rules}
 use Rattle.lists.proofs.Scans.{all_start, all_end, none_set}
 use Rattle.lists.proofs.scan.bytes_zero.Goals as goal

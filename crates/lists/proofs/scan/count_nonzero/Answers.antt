@@ -1,4 +1,3 @@
-use Prim.Native.Nat.{◌-◌}
 use borrow.Author.Tests.{lt-ltb, le-ltb}
 use Rattle.lists.proofs.Scans.{count_start, count_on, count_off, count_end}
 use borrow.Author.Rules.{rules}

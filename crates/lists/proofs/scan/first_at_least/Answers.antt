@@ -1,6 +1,5 @@
-use Prim.Native.Nat.{◌-◌}
 use lib.ListN.{get_or}
-use borrow.Author.Tests.{ltb-true, ltb-false, le-leb, lt-leb}
+use borrow.Author.Tests.{le-leb, lt-leb}
 use Rattle.lists.proofs.Scans.{first_start, first_on, first_at, first_end}
 use borrow.Author.Rules.{rules}
 use Rattle.lists.proofs.scan.first_at_least.Goals as goal

@@ -1,4 +1,3 @@
-use Prim.Native.Nat.{◌-◌}
 use borrow.Author.Tests.{eq-eqb, ne_eqb}
 use Rattle.lists.proofs.Scans.{first_start, first_on, first_at, first_end}
 use borrow.Author.Rules.{rules}

@@ -1,4 +1,3 @@
-use Prim.Native.Nat.{◌-◌}
 use borrow.Author.Rules.{rules}
 use Rattle.lists.proofs.Scans.{rises_none, rises_start, rises_on, rises_end}
 use Rattle.lists.proofs.scan.rising.Goals as goal
