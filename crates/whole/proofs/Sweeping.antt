@@ -2,7 +2,7 @@
 use Prim.Native.Nat.{ℕ, zero, suc, ◌+◌, ◌*◌, ◌/◌, ◌%◌, ◌≤◌, ◌<◌}
 use mathlib.Core.Path.{◌≡◌, refl, sym, ap, ◌∙◌}
 use mathlib.Core.List.{List}
-use mathlib.Core.Bool.{Bool, true, false, not, ◌&&◌, and-false}
+use mathlib.Core.Bool.{Bool, true, false, ◌&&◌, and-false}
 use native.Mathlib.Omega.{arith}
 use native.Mathlib.Numerals.{add-one}
 use native.Mathlib.Decide.{ℕ_discrete}
@@ -21,7 +21,7 @@ use Rattle.frames.proofs.Places.{pool_by}
 use Rattle.frames.specs.declared.frame.Frame.{Frame}
 use Rattle.records.specs.View.{blank_at}
 use Rattle.art.specs.Stores.{Place}
-use Rattle.tree.proofs.Arrivals.{fails, holds, leaf_named, inner_named, leaf_in, inner_in}
+use Rattle.tree.proofs.Arrivals.{leaf_named, inner_named, leaf_in, inner_in}
 use Rattle.whole.specs.Marks.{mark_at, unmarked}
 use Rattle.whole.specs.Sweep.{all_under, swept_at, swept_pool, swept}
 
@@ -31,6 +31,9 @@ pub record RecordHere (f : Frame) (words keys : List ℕ) (ref start : ℕ) : Ty
   pub frame : FrameOf f words keys
   pub pool : in_pool f (place_at ref) ≡ true
   pub first : start ≡ start_at f (place_at ref)
+
+pub record_here : {f : Frame} {words keys : List ℕ} {ref start : ℕ} → FrameOf f words keys × (in_pool f (place_at ref) ≡ true) → start ≡ start_at f (place_at ref) → RecordHere f words keys ref start
+record_here r e = record { frame = r.0; pool = r.1; first = e }
 
 module _ {f : Frame} {words keys : List ℕ} {ref start : ℕ} (h : RecordHere f words keys ref start) where
   -- a leaf: its words and its key bytes lie within the slices, and it is blank where they are 0
@@ -110,14 +113,14 @@ module _ {f : Frame} {words keys : List ℕ} (w : FrameOf f words keys) where
           ∙ lt-ltb i (get_or f.caps k 0) l
 
 module _ (f : Frame) (words keys m : List ℕ) (k i : ℕ) where
-  pub pool_fails : {ref : ℕ} {b : Bool} → i < get_or f.caps k 0 → ref ≡ i * 8 + k → b ≡ swept_at f words keys m (place_at ref) → not b ≡ true → false ≡ swept_pool f words keys m k
+  pub pool_fails : {ref : ℕ} {b : Bool} → i < get_or f.caps k 0 → ref ≡ i * 8 + k → b ≡ swept_at f words keys m (place_at ref) → b ≡ false → false ≡ swept_pool f words keys m k
   unfolding swept_pool
   pool_fails h r e t =
-      sym (under_fails (get_or f.caps k 0) i (λ n. swept_at f words keys m (place_at (n * 8 + k))) h (ap (λ (x : ℕ). swept_at f words keys m (place_at x)) (sym r) ∙ fails e t))
+      sym (under_fails (get_or f.caps k 0) i (λ n. swept_at f words keys m (place_at (n * 8 + k))) h (ap (λ (x : ℕ). swept_at f words keys m (place_at x)) (sym r) ∙ sym e ∙ t))
 
   pub pool_next : {ref : ℕ} {b : Bool} → all_under i (λ n. swept_at f words keys m (place_at (n * 8 + k))) ≡ true → ref ≡ i * 8 + k → b ≡ swept_at f words keys m (place_at ref)
-      → not b ≡ false → all_under (i + 1) (λ n. swept_at f words keys m (place_at (n * 8 + k))) ≡ true
-  pool_next a r e t = under_next i (λ n. swept_at f words keys m (place_at (n * 8 + k))) a (ap (λ (x : ℕ). swept_at f words keys m (place_at x)) (sym r) ∙ holds e t)
+      → b ≡ true → all_under (i + 1) (λ n. swept_at f words keys m (place_at (n * 8 + k))) ≡ true
+  pool_next a r e t = under_next i (λ n. swept_at f words keys m (place_at (n * 8 + k))) a (ap (λ (x : ℕ). swept_at f words keys m (place_at x)) (sym r) ∙ sym e ∙ t)
 
   pub pool_end : i ≡ get_or f.caps k 0 → all_under i (λ n. swept_at f words keys m (place_at (n * 8 + k))) ≡ true → true ≡ swept_pool f words keys m k
   unfolding swept_pool

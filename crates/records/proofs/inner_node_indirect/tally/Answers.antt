@@ -1,4 +1,3 @@
-use Prim.Native.Nat.{◌-◌}
 use native.Mathlib.Omega.{arith}
 use Rattle.records.proofs.Slots.{tally_start, tally_few, tally_on, tally_end}
 use Rattle.records.proofs.inner_node_indirect.tally.Goals as goal
