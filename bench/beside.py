@@ -6,7 +6,7 @@
 CALLS is 20,000 and SEED 1 if they are not given; the same two make the same list. A quarter of the calls are put to blocks that were damaged just before. The
 list, the model's answers and the port's are left in target/beside.
 
-Needs a C compiler for x86-64 and the port's static library, which `rt staticlib directory_c` writes; LIBRARY=path names another. On another machine than
+Needs a C compiler for x86-64 and the port's static library, which `tools/staticlib` writes; LIBRARY=path names another. On another machine than
 x86-64 the port runs in qemu-x86_64, or in what QEMU names. Exit status 0: no difference; 1: some; 2: something that is needed is missing.
 """
 import itertools
@@ -479,7 +479,7 @@ class List:
 def build():
     library = pathlib.Path(os.environ.get("LIBRARY") or HERE.parent / "target/staticlib/libdirectory_c.a")
     if not library.is_file():
-        missing(f"no {library}; 'rt staticlib directory_c' writes it")
+        missing(f"no {library}; tools/staticlib writes it")
     compiler, emulator = [*os.environ.get("CC", "cc").split(), "-O2"], []
     if platform.machine() != "x86_64":
         compiler, emulator = ["x86_64-linux-gnu-gcc", "-O2", "-static"], [os.environ.get("QEMU", "qemu-x86_64")]

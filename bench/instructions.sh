@@ -4,7 +4,7 @@
 #   bench/instructions.sh [TAGS ..]
 #
 # TAGS are 1000 and 4096 if none are given. It counts in qemu-x86_64, or in what QEMU names, also on x86-64, and needs a C compiler for this machine and one for
-# x86-64, and the port's static library, which `rt staticlib directory_c` writes; LIBRARY=path names another. Exit status 0: the ratios are printed, none is over
+# x86-64, and the port's static library, which `tools/staticlib` writes; LIBRARY=path names another. Exit status 0: the ratios are printed, none is over
 # 1.5; 1: one is, or a program failed; 2: something that is needed is missing. 4,096 tags take some three minutes, most of them in the inserts.
 set -eu
 cd "$(dirname "$0")"
@@ -38,7 +38,7 @@ say_shape() {
 
 . ./compiler.sh
 command -v "$qemu" > /dev/null || missing "no $qemu to count in"
-[ -f "$library" ] || missing "no $library; 'rt staticlib directory_c' writes it"
+[ -f "$library" ] || missing "no $library; tools/staticlib writes it"
 ${CC:-cc} -O2 -std=c11 -Wall -Wextra -shared -fPIC instructions.c -o "$out/instructions.so" || missing "no ${CC:-cc} that compiles the plug-in"
 $compiler -O3 -std=gnu11 -Wall -Wextra -I../include check_ratio.c "$library" -o "$out/check_ratio"
 "$qemu" -plugin "$out/instructions.so" "$out/empty" 2> "$out/plugin.log" || missing "$qemu takes no plug-ins"

@@ -39,9 +39,9 @@ build_crate() {
 build_library() {
     library=${LIBRARY:-$PWD/../target/staticlib/libdirectory_c.a}
     if [ -z "${LIBRARY:-}" ] && command -v rt > /dev/null; then
-        (cd .. && rt staticlib directory_c) > "$out/staticlib.log" 2>&1 || { cat "$out/staticlib.log"; wrong "rt did not write the library"; }
+        ../tools/staticlib > "$out/staticlib.log" 2>&1 || { cat "$out/staticlib.log"; wrong "rt did not write the library"; }
     fi
-    [ -f "$library" ] || missing "no $library; 'rt staticlib directory_c' writes it"
+    [ -f "$library" ] || missing "no $library; tools/staticlib writes it"
 }
 
 build_port() {

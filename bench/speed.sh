@@ -25,9 +25,9 @@ build_crate() {
 build_port() {
     library=${LIBRARY:-$PWD/../target/staticlib/libdirectory_c.a}
     if [ -z "${LIBRARY:-}" ] && command -v rt > /dev/null; then
-        (cd .. && rt staticlib directory_c) > "$out/staticlib.log" 2>&1 || { cat "$out/staticlib.log"; missing "rt did not write the library"; }
+        ../tools/staticlib > "$out/staticlib.log" 2>&1 || { cat "$out/staticlib.log"; missing "rt did not write the library"; }
     fi
-    [ -f "$library" ] || missing "no $library; 'rt staticlib directory_c' writes it"
+    [ -f "$library" ] || missing "no $library; tools/staticlib writes it"
     # -O3 for the search by hand, which is to be as fast as the compiler can make it
     ${CC:-cc} -O3 -std=gnu11 -Wall -Wextra -I../include -c by_hand.c -o "$out/by_hand.o"
     ${CC:-cc} -O2 -std=gnu11 -Wall -Wextra -I../include speed.c "$out/by_hand.o" "$library" -o "$out/speed"

@@ -6,8 +6,8 @@
 FILES is 200 and SEED 1 if they are not given; the same two make the same files. First come the fixed ones: cut, too long, with other word counts, beginnings that are
 empty or long, sums with carries, files that are none. Of the random ones a third is damaged and some are cut or made longer.
 
-Needs target/bin/station, which `rt check station` writes; STATION=words names another command. On another machine than x86-64 it runs as rt runs it, in the
-emulator of the toolchain. Exit status 0: no difference; 1: some; 2: something that is needed is missing.
+Needs crates/station/out/station, which `rt ci` leaves there, and `rt run` in crates/station too; STATION=words names another command. On another machine than
+x86-64 it runs in qemu-x86_64, or in what QEMU names, over the C library that Debian's libc6-dev-amd64-cross has. Exit status 0: no difference; 1: some; 2: something that is needed is missing.
 """
 import os
 import pathlib
@@ -26,6 +26,7 @@ import model
 from traces import Dice
 
 ROOT = pathlib.Path(__file__).resolve().parent.parent
+SYSTEM = pathlib.Path("/usr/x86_64-linux-gnu")  # what programs for x86-64 find in the place of / on another machine
 SHOWN = 3  # differences
 NO_FILE = "6 0 0 0\n"
 
@@ -39,16 +40,16 @@ def command():
     """The program, behind what it runs in."""
     if "STATION" in os.environ:
         return shlex.split(os.environ["STATION"])
-    program, rt = ROOT / "target/bin/station", shutil.which("rt")
+    program, emulator = ROOT / "crates/station/out/station", os.environ.get("QEMU", "qemu-x86_64")
     if not program.is_file():
-        missing(f"no {program}; 'rt check station' writes it")
+        missing(f"no {program}; 'rt run' in crates/station writes it")
     if platform.machine() == "x86_64":
         return [program]
-    if not rt:
-        missing("this is no x86-64 machine, and there is no rt whose emulator the program could run in")
-    kit = pathlib.Path(rt).resolve().parent.parent
-    library = kit / "toolchain/lib"
-    return [kit / "on" / platform.machine() / "toolchain/bin/qemu-x86_64", library / "ld-linux-x86-64.so.2", "--library-path", library, program]
+    if not shutil.which(emulator):
+        missing(f"this is no x86-64 machine, and there is no {emulator} that the program could run in (QEMU=path names one)")
+    if not (SYSTEM / "lib/ld-linux-x86-64.so.2").exists():
+        missing(f"no C library for x86-64 below {SYSTEM}")
+    return [emulator, "-L", SYSTEM, program]
 
 
 def line(file, beginning):

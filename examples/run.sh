@@ -3,15 +3,15 @@
 #
 #   examples/run.sh
 #
-# Needs a C compiler for x86-64, and elsewhere than there qemu-x86_64; rustc, on x86-64, for the second; and the static library of the port, which `rt` writes where it is not
-# there. Exit status 0: each printed what it should; 1: something else; 2: something that is needed is missing.
+# Needs a C compiler for x86-64, and elsewhere than there qemu-x86_64; rustc, on x86-64, for the second; and the static library of the port, which `tools/staticlib` writes, by `rt`,
+# where it is not there. Exit status 0: each printed what it should; 1: something else; 2: something that is needed is missing.
 set -eu
 cd "$(dirname "$0")"
 name=examples
 . ../bench/linked.sh
 if [ ! -f "$library" ]; then
     command -v rt > /dev/null || missing "no $library, and no rt to write it"
-    (cd .. && rt staticlib directory_c) > "$out/staticlib.log" 2>&1 || { cat "$out/staticlib.log"; exit 1; }
+    ../tools/staticlib > "$out/staticlib.log" 2>&1 || { cat "$out/staticlib.log"; exit 1; }
 fi
 $compiler -O2 -std=c11 -Wall -Wextra -Werror -I../include plant.c "$library" -o "$out/plant_c"
 programs=plant_c
