@@ -14,7 +14,7 @@ DECLARES = re.compile(r"(?:abbrev |unfoldable )*(?:pub )?(?:data |record )?([^\s
 CONSTRUCTORS = re.compile(r"([^\s:(){}=]+(?: [^\s:(){}=]+)*) :\s")
 DECIDES = re.compile(r"→ Dec [^→]*$|: Discrete |→ Order x y$")
 # what a call makes of the slices: not to be believed, since the theorem is what says that it is right
-OUTCOMES = "startOf searchOf prefixSearchOf minimumOf maximumOf nextLeafOf factsOf tagOf checkOf afterOf afterCheck insertOf deleteOf".split()
+OUTCOMES = "start_of search_of prefix_search_of minimum_of maximum_of next_leaf_of facts_of tag_of check_of after_of after_check insert_of delete_of".split()
 files = {}
 
 
@@ -93,9 +93,9 @@ class File:
                 self.where.setdefault(name, i)
 
     def target(self, word):
-        """The module and the name that a word of this file stands for, or None."""
-        if word in self.names:
-            return self.names[word]
+        """The module and the name that a word of this file stands for, or None. A field is written tight, as in `name.field`."""
+        if word in self.names or word.partition(".")[0] in self.names:
+            return self.names.get(word) or self.names[word.partition(".")[0]]
         alias, _, name = word.partition(".")
         return (self.aliases[alias], name) if alias in self.aliases and name else None
 
@@ -108,10 +108,10 @@ def load(path):
 
 def file_of(module):
     """The file of a module of ours, 'declared' for a type of a source file, None for the library."""
-    if not module.startswith("Rattle·"):
+    parts = module.split(".")[1:]
+    if not module.startswith("Rattle.") or not os.path.isdir(os.path.join(CRATES, parts[0])):
         return None
-    parts = module[len("Rattle·"):].split(".")
-    return "declared" if parts[2:3] == ["declared"] else "%s/%s/%s.antt" % (parts[0].split("·")[0], parts[1], "/".join(parts[2:]))
+    return "declared" if parts[2:3] == ["declared"] else "%s/%s.antt" % (parts[0], "/".join(parts[1:]))
 
 
 def hidden(part):
@@ -140,6 +140,10 @@ def follow(path, name):
         hide = hidden(part)
         words = {w.rstrip(".") for line in part for w in TOKEN.findall(line) if not w.startswith(".")}
         for word in words - hide:
+            if word.partition(".")[0] in hide:
+                continue
+            if word not in f.where and not f.target(word):
+                word = word.partition(".")[0]
             if word in f.where:
                 todo.append((at[0], f.where[word]))
                 continue
