@@ -4,8 +4,8 @@
     bench/mutations.py [--edits N] [--seed S] [--only CRATE] [--jobs N] [--limit SECONDS] [--list] [--errors]
 
 An edit changes one operator, number, truth value, variable, field or constructor, or exchanges two arguments of a call, in a function's body or a constant's
-value; contracts, definitions and proofs stay. The edited crate is checked in a folder of its own, over the libraries that target/ has proved. An edit that
-does not compile counts for nothing, and the next one takes its place. The same seed makes the same edits.
+value; contracts, definitions and proofs stay. The edited crate is checked in a copy of the repository, over the libraries that `rt check` has proved here: rt finds them by itself. An edit
+that does not compile counts for nothing, and the next one takes its place. The same seed makes the same edits.
 """
 import argparse
 import collections
@@ -29,8 +29,8 @@ OPERATORS = {
 }
 TRUTH = {"true": "false", "false": "true"}
 KEYWORDS = {"if", "else", "while", "return", "match", "let", "mut", "as", "in", "for", "loop", "true", "false"}
-# The error of a proof that answers a need which the edited code does not have: the shape is refused, and no fact was tried.
-MISFIT = re.compile(r"`tie\.Need-[^`]*`: module")
+# The error of a proof that answers a goal which the edited code does not have: the shape is refused, and no fact was tried.
+MISFIT = re.compile(r"module `Rattle\.[^`]*\.(Goals|Given)` has no ")
 
 Edit = collections.namedtuple("Edit", "crate file start end new kind")
 Function = collections.namedtuple("Function", "name names types result start end")
@@ -48,8 +48,8 @@ def close(code, at):
 def code_of(text):
     """The text with spaces for all that no edit may touch: comments, attributes, imports, contracts."""
     blank = lambda m: re.sub(r"[^\n]", " ", m.group())
-    text = re.sub(r"//[^\n]*|#\[[^\n]*\]|^ *(pub )?(ghost use|use|mod) [^;]*;", blank, text, flags=re.M)
-    for m in re.finditer(r"\b(requires|ensures) \{", text):
+    text = re.sub(r"//[^\n]*|#!?\[[^\n]*\]|^ *(pub )?(ghost use|use|mod) [^;]*;", blank, text, flags=re.M)
+    for m in re.finditer(r"\b(requires|ensures)\*? (\w+ )?\{", text):
         end = close(text, m.end() - 1) + 1
         text = text[: m.start()] + " " * (end - m.start()) + text[end:]
     return text
@@ -179,20 +179,16 @@ def shown(edit, texts):
     return "%s/src/%s:%d: `%s` to `%s` in `%s`" % (edit.crate, edit.file, text.count("\n", 0, edit.start) + 1, old, new, row)
 
 
-def folder_for(crate, work):
-    """A repository with a copy of the crate, and with the others as they stand and are proved."""
-    for part in ("crates", "target/rlib", "target/stamp"):
-        (work / part).mkdir(parents=True)
-        for f in (ROOT / part).iterdir():
-            if f.name.split(".")[0] != crate:
-                (work / part / f.name).symlink_to(f)
+def copy_to(work):
+    """A copy of the repository's crates, without what was built of them."""
     shutil.copy(ROOT / "crates.txt", work)
-    shutil.copytree(ROOT / "crates" / crate, work / "crates" / crate)
+    shutil.copytree(ROOT / "crates", work / "crates", ignore=shutil.ignore_patterns("out"))
 
 
 def run(command, crate, work, limit=None):
-    """Exit status and output of `rt COMMAND CRATE`; no status where it takes too long."""
-    rt = subprocess.Popen(["rt", command, crate], cwd=work, stdout=subprocess.PIPE, stderr=subprocess.STDOUT, text=True, start_new_session=True)
+    """Exit status and output of `rt COMMAND` in the crate's folder; no status where it takes too long."""
+    folder = work / "crates" / crate
+    rt = subprocess.Popen(["rt", command], cwd=folder, stdout=subprocess.PIPE, stderr=subprocess.STDOUT, text=True, start_new_session=True)
     try:
         return rt.communicate(timeout=limit)[0], rt.returncode
     except subprocess.TimeoutExpired:
@@ -201,16 +197,16 @@ def run(command, crate, work, limit=None):
 
 
 def check(crate, work, limit):
-    """What the checker says of the crate as it is now, and its first error. The edit loop refuses in seconds; what it accepts is put to `rt check`."""
-    said, status = run("dev", crate, work, limit)
+    """What the checker says of the crate as it is now, and its first error. `rt check` refuses in seconds, over what it kept; what it accepts is put to `rt verdict`, which proves from nothing."""
+    said, status = run("check", crate, work, limit)
     if status == 0:
-        said, status = run("check", crate, work, limit)
-    first = next((line for line in said.splitlines() if ": error" in line), "")
+        said, status = run("verdict", crate, work)
+    first = next((line for line in said.splitlines() if ": error" in line or ": no proof: expected" in line), "")
     if status == 0:
         return "survived", first
     if re.search(r"^logic=not-proved", said, re.M):
         return "shape" if MISFIT.search(first) else "fact", first
-    return "language" if "/src/" in first.split(": error")[0] else "no answer", first
+    return "language" if re.match(r"(\./)?src/", first) else "no answer", first
 
 
 def sample(crate, places, share, options, texts):
@@ -219,8 +215,8 @@ def sample(crate, places, share, options, texts):
     tried = []
     with tempfile.TemporaryDirectory() as folder:
         work = pathlib.Path(folder)
-        folder_for(crate, work)
-        run("dev", crate, work)  # so that each edit has only what it changes to prove
+        copy_to(work)
+        run("check", crate, work)  # so that each edit has only what it changes to prove
         for edit in (dice.choice(edits) for edits in dice.sample(places, len(places))):
             if sum(result != "language" for _, result in tried) == share:
                 break
@@ -267,7 +263,7 @@ def main():
     if options.list:
         return print("\n".join(shown(e, texts) for p in places.values() for edits in p for e in edits))
     print("%d places, %d edits, %d crates" % (sum(map(len, places.values())), sum(len(e) for p in places.values() for e in p), len(places)), flush=True)
-    if subprocess.run(["rt", "check", *places], cwd=ROOT, stdout=subprocess.DEVNULL).returncode:
+    if any([run("check", crate, ROOT)[1] for crate in places]):
         sys.exit("there are crates that are not proved before any edit: see rt check")
     with concurrent.futures.ThreadPoolExecutor(options.jobs) as pool:
         runs = [pool.submit(sample, c, places[c], k, options, texts) for c, k in shares(places, options.edits).items()]
