@@ -1,7 +1,6 @@
 -- The records and slots that a call takes, on blocks that are written out: what each theorem asks is computed, and what it says of the block can be read off.
 use Prim.Native.Nat.{ℕ}
 use mathlib.Core.Path.{◌≡◌, refl, ap, subst}
-use mathlib.Core.List.{[]}
 use mathlib.Core.Option.{Option}
 use native.Mathlib.Omega.{arith}
 use lib.ListN.{get_or, replicate}

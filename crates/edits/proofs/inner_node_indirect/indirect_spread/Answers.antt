@@ -1,4 +1,3 @@
-use Prim.Native.Nat.{◌-◌}
 use mathlib.Core.Path.{refl}
 use Rattle.lists.proofs.Built.{built_start, built_on, built_end}
 use Rattle.records.specs.Own.{indirect_child}

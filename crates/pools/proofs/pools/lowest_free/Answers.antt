@@ -1,4 +1,3 @@
-use Prim.Native.Nat.{◌-◌}
 use native.Mathlib.Omega.{arith}
 use Rattle.frames.proofs.Frames.{framed, framed_room, frame_room, caps_most}
 use Rattle.pools.specs.Pool.{lowest_free}

@@ -1,4 +1,3 @@
-use Prim.Native.Nat.{◌-◌}
 use borrow.Author.Rules.{rules}
 use Rattle.pools.proofs.Lowest.{smallest_start, smallest_on, smallest_at, smallest_end}
 use Rattle.pools.proofs.pools.smallest_free.Goals as goal
