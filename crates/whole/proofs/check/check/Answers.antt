@@ -1,7 +1,7 @@
 -- `check::check` meets its contract: each return is a case of `check_of`.
 use Rattle.std.proofs.Common.{true, false, sym, ◌∙◌, arith}
 use Rattle.frames.proofs.Frames.{framed}
-use Rattle.whole.proofs.Calls.{check_unframed, check_short, check_finished}
+use Rattle.whole.proofs.Calls.{check_unframed, check_short, Finished, check_finished}
 use Rattle.whole.proofs.check.check.Goals as goal
 
 pub returns-then-not-frame_fits : goal.returns-then-not-frame_fits

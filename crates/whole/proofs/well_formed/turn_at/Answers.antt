@@ -20,12 +20,12 @@ turn_of-requires c = let a = c.args in
 
 pub returns-then-reach : goal.returns-then-reach
 returns-then-reach c = let a = c.args in (
-      turn_new a.f a.words.now a.keys.now a.left a.reference a.depth a.marks.now a.s (sym c.reach.ensures.0 ∙ c.if-reach.true) c.arrive-a.ensures c.turn_of.ensures,
-      c.reach.ensures.1,
-    )
+  turn_new a.f a.words.now a.keys.now a.left a.reference a.depth a.marks.now a.s (sym c.reach.ensures.0 ∙ c.if-reach.true) c.arrive-a.ensures c.turn_of.ensures,
+  c.reach.ensures.1,
+)
 
 pub returns : goal.returns
 returns c = let a = c.args in (
-      turn_old a.f a.words.now a.keys.now a.left a.reference a.depth a.marks.now a.s (sym c.reach.ensures.0 ∙ c.if-reach.false),
-      c.reach.ensures.1,
-    )
+  turn_old a.f a.words.now a.keys.now a.left a.reference a.depth a.marks.now a.s (sym c.reach.ensures.0 ∙ c.if-reach.false),
+  c.reach.ensures.1,
+)

@@ -3,9 +3,6 @@ use native.Mathlib.Omega.{arith}
 use Rattle.whole.proofs.Witnesses.{goes_by, goes_out}
 use Rattle.whole.proofs.witness.goes_on.Goals as goal
 
-pub overflow_cast-result : goal.overflow_cast-result
-overflow_cast-result c = omega (arith, c.shared_slice_known-then-e-t-1.given c.args.e)
-
 pub returns-then-e-t : goal.returns-then-e-t
 returns-then-e-t c = let s = c.args in
     goes_by s.e s.w.now s.byte s.t.now (omega arith) c.shared_bytes-n.ensures
