@@ -4,7 +4,7 @@ use lib.ListN.{length}
 use Rattle.text.proofs.fill.Given as goal
 
 abbrev pub invariant-loop-i : goal.invariant-loop-i
-invariant-loop-i l = (l.place < 3) × (l.i ≤ length l.form)
+invariant-loop-i g l = (l.place < 3) × (l.i ≤ length l.form)
 
 abbrev pub decreases-loop-i : goal.decreases-loop-i
-decreases-loop-i l = length l.form - l.i
+decreases-loop-i g l = length l.form - l.i
