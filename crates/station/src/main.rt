@@ -2,18 +2,27 @@
 // beginning is all of standard input. Prints number, count, low sum and carries. A file that cannot be read is an empty one, which is no block.
 #![tactic(auto)]
 
-ghost use Rattle.std.specs.Prelude.{◌≡◌};
+ghost use Rattle.std.specs.Prelude.{◌≡◌, ◌≤◌, length};
 ghost use Rattle.station.specs.Line.{line_as, block_line, line_of};
 
-use libc::STDIN_FILENO;
 use saved::{Saved, WORDS};
 use stations::Totalled;
+use std::env::Env;
+use std::fs::Files;
+use std::io::Write;
+use std::{fs, io, str};
 
 // A byte for each record of a block that fits a file: none takes fewer than 52 bytes of it, in any form to come, and count and trailer take 68.
 const SCRATCH: usize = 1152;
 
 // One byte more than a block may have, so that a longer file is seen to be one.
 const FILE: usize = saved::MOST + 1;
+
+// No path is longer.
+const NAME: usize = 4096;
+
+// More bytes than any tag has.
+const BEGINNING: usize = 4096;
 
 // What is printed.
 #[derive(Clone, Copy)]
@@ -74,19 +83,44 @@ fn line_of(file: &[u8], beginning: &[u8]) -> Line
     block_line(&words[0..n], &file[a..], beginning)
 }
 
-fn print(line: Line) {
-    text::numbers(b"# # # ", line.number as u64, line.count as u64, line.low);
-    text::numbers(b"#\n", line.carries as u64, 0, 0);
+fn print<W: Write>(out: &mut W, line: Line) -> io::Result<()> {
+    text::numbers(
+        out,
+        b"# # # ",
+        line.number as u64,
+        line.count as u64,
+        line.low,
+    )?;
+    text::numbers(out, b"#\n", line.carries as u64, 0, 0)
+}
+
+// The name that the first argument is; empty, which names no file, where there is none, or it is longer than its buffer or no text.
+fn name_in<'a, R: Env>(rt: &R, space: &'a mut [u8]) -> &'a str {
+    let Ok(n) = rt.arg(1, space) else {
+        return "";
+    };
+    let Ok(name) = str::from_utf8(&space[..n]) else {
+        return "";
+    };
+    name
+}
+
+// The front of the file of that name; nothing where it cannot be read.
+fn front_of<R: Files>(rt: &R, name: &str, space: &mut [u8]) -> usize
+    ensures { result ≤ length space.new }
+{
+    match fs::open(rt, name) {
+        Ok(mut file) => text::front(&mut file, space),
+        Err(_) => 0,
+    }
 }
 
 // A file or a beginning may be longer than its buffer: the first bytes then have the same line (proofs/Cuts).
-fn main() {
-    let mut name = io::buffer();
-    let n = os::arg(1, &mut name);
-    let fd = os::open_read(&name[..n]);
+fn main(rt: HostRuntime) -> io::Result<()> {
+    let mut name = [0u8; NAME];
     let mut file = [0u8; FILE];
-    let got = io::read_full(fd, &mut file);
-    let mut beginning = io::buffer();
-    let k = io::read_full(STDIN_FILENO, &mut beginning);
-    print(line_of(&file[..got], &beginning[..k]));
+    let got = front_of(&rt, name_in(&rt, &mut name), &mut file);
+    let mut beginning = [0u8; BEGINNING];
+    let k = text::front(&mut rt.stdin(), &mut beginning);
+    print(&mut rt.stdout(), line_of(&file[..got], &beginning[..k]))
 }
