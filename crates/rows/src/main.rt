@@ -4,7 +4,7 @@
 
 mod steps; // the stored list
 
-ghost use Rattle.std.specs.Prelude.{◌≡◌, ◌≤◌, ◌<◌, length};
+ghost use Rattle.std.specs.Prelude.{◌≡◌, ◌≤◌, ◌<◌, length, IfOk};
 ghost use Rattle.records.specs.Own.{InnerFits, child_at};
 
 use edits::representation as edit;
@@ -14,31 +14,31 @@ use frames::{form, frame, kind};
 use prefix::Prefix;
 use records::representation;
 use records::representation::Entry;
+use std::io;
+use std::io::Write;
 use steps::Step;
 
 // The room is as long as the longest record.
 const ROOM: usize = 315;
 
 // A child, or that there is none.
-fn say_entry(e: Entry) {
+fn say_entry<W: Write>(out: &mut W, e: Entry) -> io::Result<()> {
     let Entry::Child(byte, reference) = e else {
-        text::say(b" = nothing");
-        return;
+        return text::say(out, b" = nothing");
     };
-    text::numbers(b" = #:#", byte as u64, reference as u64, 0);
+    text::numbers(out, b" = #:#", byte as u64, reference as u64, 0)
 }
 
 // A reference, or that there is none.
-fn say_reference(reference: u32) {
+fn say_reference<W: Write>(out: &mut W, reference: u32) -> io::Result<()> {
     if reference == 0 {
-        text::say(b" = nothing");
-        return;
+        return text::say(out, b" = nothing");
     }
-    text::labelled(b" = ", reference as u64);
+    text::labelled(out, b" = ", reference as u64)
 }
 
 // The letters of a prefix that are stored.
-fn say_stored(p: Prefix)
+fn say_stored<W: Write>(out: &mut W, p: Prefix) -> io::Result<()>
     requires { length p.stored ≡ 8 }
 {
     let s = prefix::stored_len(p.full);
@@ -46,17 +46,19 @@ fn say_stored(p: Prefix)
     let stored = p.stored;
     let mut i = 0;
     while i < k {
-        text::letter((stored[i] % 256) as u8);
+        text::letter(out, (stored[i] % 256) as u8)?;
         i += 1;
     }
+    Ok(())
 }
 
 // The slot number of a byte in a record of kind 3.
-fn say_slot(rec: &[u32], form: Form, byte: u32) {
+fn say_slot<W: Write>(out: &mut W, rec: &[u32], form: Form, byte: u32) -> io::Result<()> {
     let at = form::header_of(form) + byte as usize;
     if at < rec.len() {
-        text::labelled(b"@", frame::num(rec, at) as u64);
+        text::labelled(out, b"@", frame::num(rec, at) as u64)?;
     }
+    Ok(())
 }
 
 // The byte to go on from after the child of byte b, 256 where all are passed.
@@ -75,40 +77,53 @@ fn after(byte: usize, b: u32) -> usize
 }
 
 // The first child at or after the byte; answers the byte to go on from.
-fn say_from(rec: &[u32], form: Form, kind: u32, byte: usize) -> usize
+fn say_from<W: Write>(
+    out: &mut W,
+    rec: &[u32],
+    form: Form,
+    kind: u32,
+    byte: usize,
+) -> io::Result<usize>
     requires { (byte < 256) × InnerFits form kind rec.now }
-    ensures { (byte < result) × (result ≤ 256) }
+    ensures { IfOk result (λ next. (byte < next) × (next ≤ 256)) }
 {
     let Entry::Child(b, reference) = representation::child_from(form, rec, kind, byte) else {
-        return 256;
+        return Ok(256);
     };
-    text::numbers(b" #:#", b as u64, reference as u64, 0);
+    text::numbers(out, b" #:#", b as u64, reference as u64, 0)?;
     if kind == 3 {
-        say_slot(rec, form, b);
+        say_slot(out, rec, form, b)?;
     }
-    after(byte, b)
+    Ok(after(byte, b))
 }
 
 // The row, from byte to byte.
-fn say_row(rec: &[u32], form: Form, kind: u32)
+fn say_row<W: Write>(out: &mut W, rec: &[u32], form: Form, kind: u32) -> io::Result<()>
     requires { InnerFits form kind rec.now }
 {
     let mut byte: usize = 0;
     while byte < 256 {
-        byte = say_from(rec, form, kind, byte);
+        byte = say_from(out, rec, form, kind, byte)?;
     }
+    Ok(())
 }
 
 // A record: its kind, its prefix, how many children, and the row.
-fn say_record(rec: &[u32], form: Form, kind: u32)
+fn say_record<W: Write>(out: &mut W, rec: &[u32], form: Form, kind: u32) -> io::Result<()>
     requires { InnerFits form kind rec.now }
 {
     let p = records::header::prefix_at(form, rec);
-    text::numbers(b" -> kind #, prefix # ", kind as u64, p.full.0 as u64, 0);
-    say_stored(p);
+    text::numbers(
+        out,
+        b" -> kind #, prefix # ",
+        kind as u64,
+        p.full.0 as u64,
+        0,
+    )?;
+    say_stored(out, p)?;
     let n = records::header::child_count(rec);
-    text::numbers(b", # children:", n as u64, 0, 0);
-    say_row(rec, form, kind);
+    text::numbers(out, b", # children:", n as u64, 0, 0)?;
+    say_row(out, rec, form, kind)
 }
 
 // The kind of the record that stands at the front of the room, 0 where none does.
@@ -138,16 +153,19 @@ fn child_at(rec: &[u32], form: Form, kind: u32, byte: u8) -> u32
 }
 
 // The answer to a question about a record, or the record after a change.
-fn answer(rec: &[u32], form: Form, kind: u32, s: Step)
+fn answer<W: Write>(out: &mut W, rec: &[u32], form: Form, kind: u32, s: Step) -> io::Result<()>
     requires { InnerFits form kind rec.now }
 {
     let op = s.op;
     match op {
-        steps::LOOKUP => say_reference(child_at(rec, form, kind, s.byte)),
-        steps::LOWEST => say_entry(representation::nth_child(form, rec, kind, 0)),
-        steps::HIGHEST => say_entry(representation::last_child(form, rec, kind)),
-        steps::FROM => say_entry(representation::child_from(form, rec, kind, s.byte as usize)),
-        _ => say_record(rec, form, kind),
+        steps::LOOKUP => say_reference(out, child_at(rec, form, kind, s.byte)),
+        steps::LOWEST => say_entry(out, representation::nth_child(form, rec, kind, 0)),
+        steps::HIGHEST => say_entry(out, representation::last_child(form, rec, kind)),
+        steps::FROM => say_entry(
+            out,
+            representation::child_from(form, rec, kind, s.byte as usize),
+        ),
+        _ => say_record(out, rec, form, kind),
     }
 }
 
@@ -289,25 +307,25 @@ fn change(rec: &mut [u32], form: Form, kind: u32, s: Step) -> bool
 }
 
 // One change of the record in the room, or what is said of it; false where there is none, or the change is refused.
-fn on_record(room: &mut [u32], s: Step, changing: bool) -> bool {
+fn on_record<W: Write>(out: &mut W, room: &mut [u32], s: Step, changing: bool) -> io::Result<bool> {
     let kind = kind_at(room);
     if kind == 0 {
-        return false;
+        return Ok(false);
     }
     let form = form_one();
     let e = form::record_words(form, kind);
     if room.len() < e {
-        return false;
+        return Ok(false);
     }
     let rec = &room[0..e];
     if !representation::inner_ok(form, rec, kind) {
-        return false;
+        return Ok(false);
     }
     if !changing {
-        answer(rec, form, kind, s);
-        return true;
+        answer(out, rec, form, kind, s)?;
+        return Ok(true);
     }
-    change(&mut room[0..e], form, kind, s)
+    Ok(change(&mut room[0..e], form, kind, s))
 }
 
 // The step for the next byte, with the next reference of the same kind.
@@ -323,64 +341,65 @@ fn next(s: Step) -> Step {
 }
 
 // So many changes for the bytes in a row; stops at one that is refused.
-fn changes(room: &mut [u32; ROOM], first: Step) -> bool {
+fn changes<W: Write>(out: &mut W, room: &mut [u32; ROOM], first: Step) -> io::Result<bool> {
     let mut s = first;
     let mut left = first.number;
     while 0 < left {
-        if !on_record(room, s, true) {
-            return false;
+        if !on_record(out, room, s, true)? {
+            return Ok(false);
         }
         s = next(s);
         left -= 1;
     }
-    true
+    Ok(true)
 }
 
 // What a step does to the room; false where it is refused.
-fn run(room: &mut [u32; ROOM], s: Step) -> bool {
+fn run<W: Write>(out: &mut W, room: &mut [u32; ROOM], s: Step) -> io::Result<bool> {
     let op = s.op;
     match op {
-        steps::NEW => branching(room, s),
-        steps::MOVE => moved(room, s.number),
-        steps::PREFIX => on_record(room, s, true),
-        steps::ADD | steps::REPLACE | steps::REMOVE => changes(room, s),
-        _ => true,
+        steps::NEW => Ok(branching(room, s)),
+        steps::MOVE => Ok(moved(room, s.number)),
+        steps::PREFIX => on_record(out, room, s, true),
+        steps::ADD | steps::REPLACE | steps::REMOVE => changes(out, room, s),
+        _ => Ok(true),
     }
 }
 
 // A step as it is asked, by its place in the list of all; 104:5 is the child that stood there before.
-fn say_step(s: Step) {
+fn say_step<W: Write>(out: &mut W, s: Step) -> io::Result<()> {
     let forms =
         b"new kind # of 104:5 and #:#|add #:#|replace #:#|remove #|prefix of #|move to kind #|lookup #|lowest|highest|at or after #";
     let form = text::read::word(forms, s.op / steps::APART, b'|');
     let byte = s.byte as u64;
     let reference = s.reference as u64;
     if (s.op == steps::NEW) | (s.op == steps::MOVE) {
-        text::numbers(form, s.number as u64, byte, reference);
-        return;
+        return text::numbers(out, form, s.number as u64, byte, reference);
     }
-    text::numbers(form, byte, reference, 0);
+    text::numbers(out, form, byte, reference, 0)?;
     if 1 < s.number {
-        text::numbers(b", # in a row", s.number as u64, 0, 0);
+        text::numbers(out, b", # in a row", s.number as u64, 0, 0)?;
     }
+    Ok(())
 }
 
 // A step's line.
-fn show(room: &mut [u32; ROOM], s: Step) {
-    say_step(s);
-    if !run(room, s) {
-        text::say(b" -> refused\n");
-        return;
+fn show<W: Write>(out: &mut W, room: &mut [u32; ROOM], s: Step) -> io::Result<()> {
+    say_step(out, s)?;
+    if !run(out, room, s)? {
+        return text::say(out, b" -> refused\n");
     }
-    on_record(room, s, false);
-    text::say(b"\n");
+    on_record(out, room, s, false)?;
+    text::say(out, b"\n")
 }
 
-fn main() {
+fn main(rt: HostRuntime) -> io::Result<()> {
+    let mut out = rt.stdout();
     let mut room = [0u32; ROOM];
     let mut i = 0;
     while i < steps::COUNT {
-        show(&mut room, steps::step_at(i));
+        show(&mut out, &mut room, steps::step_at(i))?;
         i += 1;
     }
+    Ok(())
 }
