@@ -4,10 +4,12 @@
 
 mod steps; // the stored list
 
-ghost use Rattle.std.specs.Prelude.{◌≤◌, ◌<◌};
+ghost use Rattle.std.specs.Prelude.{◌≤◌, ◌<◌, IfOk};
 
 use directory_c::DirectoryChanged;
 use frames::frame;
+use std::io;
+use std::io::Write;
 use steps::Step;
 
 // Room for 256 leaves and one record of each kind: 19 + 43 + 315 + 267 + 256 × 6 + 16 words, 64 key bytes a leaf, a scratch byte a record.
@@ -18,9 +20,9 @@ const KEYS: usize = 16384;
 const SCRATCH: usize = 260;
 
 // An empty directory with that room.
-fn start(words: &mut [u32; WORDS], keys: &mut [u8; KEYS]) {
+fn start<W: Write>(out: &mut W, words: &mut [u32; WORDS], keys: &mut [u8; KEYS]) -> io::Result<()> {
     let number = directory_c::directory_start(words, keys, 1, 1, 1, 1, 256);
-    text::numbers(b"start gives #\n", number as u64, 0, 0);
+    text::numbers(out, b"start gives #\n", number as u64, 0, 0)
 }
 
 // Scratch is lent for one call, so each call that wants it has its own.
@@ -39,63 +41,89 @@ fn take_out(words: &mut [u32; WORDS], keys: &mut [u8; KEYS], tag: &[u8]) -> Dire
     directory_c::directory_delete(words, keys, &mut scratch, tag)
 }
 
-fn check(words: &[u32], keys: &[u8]) {
+fn check<W: Write>(out: &mut W, words: &[u32], keys: &[u8]) -> io::Result<()> {
     let mut scratch = [0u8; SCRATCH];
     let number = directory_c::directory_check(words, keys, &mut scratch);
-    text::numbers(b"check gives #\n", number as u64, 0, 0);
+    text::numbers(out, b"check gives #\n", number as u64, 0, 0)
 }
 
-fn search(words: &[u32], keys: &[u8], name: &[u8], tag: &[u8]) {
+fn search<W: Write>(
+    out: &mut W,
+    words: &[u32],
+    keys: &[u8],
+    name: &[u8],
+    tag: &[u8],
+) -> io::Result<()> {
     let a = directory_c::directory_search(words, keys, tag);
     text::fill(
+        out,
         b"search $ gives #, leaf #, total #\n",
         name,
         a.number as u64,
         a.leaf as u64,
         a.total,
-    );
+    )
 }
 
 // A call on a tag, under the name that it has in the lines.
-fn call(
+fn call<W: Write>(
+    out: &mut W,
     words: &mut [u32; WORDS],
     keys: &mut [u8; KEYS],
     name: &[u8],
     tag: &[u8],
     op: u32,
     total: u64,
-) {
+) -> io::Result<()> {
     match op {
-        steps::SEARCH => search(words, keys, name, tag),
+        steps::SEARCH => search(out, words, keys, name, tag),
         steps::INSERT => {
             let a = put(words, keys, tag, total);
             let form = b"insert $ with # gives #, total #\n";
-            text::fill(form, name, total, a.number as u64, a.total);
+            text::fill(out, form, name, total, a.number as u64, a.total)
         }
         _ => {
             let a = take_out(words, keys, tag);
             let form = b"delete $ gives #, total #\n";
-            text::fill(form, name, a.number as u64, a.total, 0);
+            text::fill(out, form, name, a.number as u64, a.total, 0)
         }
     }
 }
 
 // As many As; of 64 the last may be another.
-fn on_run(words: &mut [u32; WORDS], keys: &mut [u8; KEYS], name: &[u8], s: Step) {
+fn on_run<W: Write>(
+    out: &mut W,
+    words: &mut [u32; WORDS],
+    keys: &mut [u8; KEYS],
+    name: &[u8],
+    s: Step,
+) -> io::Result<()> {
     let mut run = [b'A'; 65];
     let n = steps::run_length(s.1);
     run[63] = steps::last_byte(s.1);
-    call(words, keys, name, &run[0..n], s.0, s.2);
+    call(out, words, keys, name, &run[0..n], s.0, s.2)
 }
 
-fn on_tag(words: &mut [u32; WORDS], keys: &mut [u8; KEYS], s: Step) {
+fn on_tag<W: Write>(
+    out: &mut W,
+    words: &mut [u32; WORDS],
+    keys: &mut [u8; KEYS],
+    s: Step,
+) -> io::Result<()> {
     let names = b"64 bytes|65 bytes|63 bytes|64 bytes, the last another|B once more|BB|L14A|L14B";
     let name = text::read::word(names, s.1, b'|');
     if s.1 <= steps::PARTING {
-        on_run(words, keys, name, s);
-        return;
+        return on_run(out, words, keys, name, s);
     }
-    call(words, keys, name, text::read::word(name, 0, b' '), s.0, s.2);
+    call(
+        out,
+        words,
+        keys,
+        name,
+        text::read::word(name, 0, b' '),
+        s.0,
+        s.2,
+    )
 }
 
 // The kind of the root, 5 for a leaf, 0 for none.
@@ -107,49 +135,60 @@ fn root_kind(words: &[u32]) -> u32 {
 }
 
 // A line where the root's kind has changed.
-fn say_root(before: u32, now: u32, byte: u32) -> u32 {
+fn say_root<W: Write>(out: &mut W, before: u32, now: u32, byte: u32) -> io::Result<u32> {
     if before != now {
         let form = b"  byte #: the root is of kind #\n";
-        text::numbers(form, byte as u64, now as u64, 0);
+        text::numbers(out, form, byte as u64, now as u64, 0)?;
     }
-    now
+    Ok(now)
 }
 
 // 1 where the tag was accepted, else 0 and a line.
-fn accepted(number: u32, byte: u32) -> u32
-    ensures { result ≤ 1 }
+fn accepted<W: Write>(out: &mut W, number: u32, byte: u32) -> io::Result<u32>
+    ensures { IfOk result (λ n. n ≤ 1) }
 {
     if number == 0 {
-        return 1;
+        return Ok(1);
     }
-    text::numbers(b"  byte # gives #\n", byte as u64, number as u64, 0);
-    0
+    text::numbers(out, b"  byte # gives #\n", byte as u64, number as u64, 0)?;
+    Ok(0)
 }
 
 // The tag of one byte goes in with the total 1000 + byte, or out.
-fn byte_turn(words: &mut [u32; WORDS], keys: &mut [u8; KEYS], op: u32, byte: u32) -> u32
-    ensures { result ≤ 1 }
+fn byte_turn<W: Write>(
+    out: &mut W,
+    words: &mut [u32; WORDS],
+    keys: &mut [u8; KEYS],
+    op: u32,
+    byte: u32,
+) -> io::Result<u32>
+    ensures { IfOk result (λ n. n ≤ 1) }
 {
     let tag = [(byte % 256) as u8];
     if op == steps::ALL_IN {
         let a = put(words, keys, &tag, 1000 + byte as u64);
-        return accepted(a.number, byte);
+        return accepted(out, a.number, byte);
     }
     let a = take_out(words, keys, &tag);
-    accepted(a.number, byte)
+    accepted(out, a.number, byte)
 }
 
 // All 256 one-byte tags, the lowest first, with a line where the root's kind changes.
-fn all_bytes(words: &mut [u32; WORDS], keys: &mut [u8; KEYS], op: u32) {
+fn all_bytes<W: Write>(
+    out: &mut W,
+    words: &mut [u32; WORDS],
+    keys: &mut [u8; KEYS],
+    op: u32,
+) -> io::Result<()> {
     let mut n: u32 = 0;
     let mut kind = root_kind(words);
     let mut byte: u32 = 0;
     while byte < 256 {
-        n = n + byte_turn(words, keys, op, byte);
-        kind = say_root(kind, root_kind(words), byte);
+        n = n + byte_turn(out, words, keys, op, byte)?;
+        kind = say_root(out, kind, root_kind(words), byte)?;
         byte += 1;
     }
-    text::numbers(b"# accepted\n", n as u64, 0, 0);
+    text::numbers(out, b"# accepted\n", n as u64, 0, 0)
 }
 
 fn one_more(a: u64, b: u64) -> u64
@@ -164,7 +203,7 @@ fn one_more(a: u64, b: u64) -> u64
 }
 
 // From the minimum by next leaf to the end: how many leaves there are, and how often a total is one more than the one before.
-fn listing(words: &[u32], keys: &[u8]) {
+fn listing<W: Write>(out: &mut W, words: &[u32], keys: &[u8]) -> io::Result<()> {
     let mut a = directory_c::directory_minimum(words, keys);
     let mut rising: u64 = 0;
     let mut n: u64 = 0;
@@ -178,41 +217,53 @@ fn listing(words: &[u32], keys: &[u8]) {
         n += 1;
     }
     let form = b"next leaf from the minimum: # leaves, # followed by the next total\n";
-    text::numbers(form, n, rising, 0);
+    text::numbers(out, form, n, rising, 0)
 }
 
 // The tags of one byte in or out, and what the directory then is.
-fn on_all(words: &mut [u32; WORDS], keys: &mut [u8; KEYS], op: u32) {
+fn on_all<W: Write>(
+    out: &mut W,
+    words: &mut [u32; WORDS],
+    keys: &mut [u8; KEYS],
+    op: u32,
+) -> io::Result<()> {
     let ways = b"in|out";
     text::named(
+        out,
         b"all 256 one-byte tags $\n",
         text::read::word(ways, op % 2, b'|'),
-    );
-    all_bytes(words, keys, op);
-    check(words, keys);
-    listing(words, keys);
+    )?;
+    all_bytes(out, words, keys, op)?;
+    check(out, words, keys)?;
+    listing(out, words, keys)
 }
 
-fn step(words: &mut [u32; WORDS], keys: &mut [u8; KEYS], s: Step) {
+fn step<W: Write>(
+    out: &mut W,
+    words: &mut [u32; WORDS],
+    keys: &mut [u8; KEYS],
+    s: Step,
+) -> io::Result<()> {
     let op = s.0;
     match op {
-        steps::INSERT | steps::DELETE | steps::SEARCH => on_tag(words, keys, s),
-        steps::CHECK => check(words, keys),
-        steps::START => start(words, keys),
-        _ => on_all(words, keys, op),
+        steps::INSERT | steps::DELETE | steps::SEARCH => on_tag(out, words, keys, s),
+        steps::CHECK => check(out, words, keys),
+        steps::START => start(out, words, keys),
+        _ => on_all(out, words, keys, op),
     }
 }
 
-fn run(words: &mut [u32; WORDS], keys: &mut [u8; KEYS]) {
+fn run<W: Write>(out: &mut W, words: &mut [u32; WORDS], keys: &mut [u8; KEYS]) -> io::Result<()> {
     let mut i = 0;
     while i < steps::COUNT {
-        step(words, keys, steps::step_at(i));
+        step(out, words, keys, steps::step_at(i))?;
         i += 1;
     }
+    Ok(())
 }
 
-fn main() {
+fn main(rt: HostRuntime) -> io::Result<()> {
     let mut words = [0u32; WORDS];
     let mut keys = [0u8; KEYS];
-    run(&mut words, &mut keys);
+    run(&mut rt.stdout(), &mut words, &mut keys)
 }
