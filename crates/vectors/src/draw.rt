@@ -5,6 +5,8 @@ ghost use Rattle.std.specs.Prelude.{◌≤◌, ◌<◌, ◌^◌};
 use super::{line, say};
 use frames::{form, frame, kind};
 use records::header;
+use std::io;
+use std::io::Write;
 
 // Where the stored bytes of a prefix begin.
 const STORED: usize = 3;
@@ -66,39 +68,40 @@ fn in_use(words: &[u32], keys: &[u8], kind: u32) -> u64
 }
 
 // The check's answer for a sound block: how many leaves and how many inner records are in use.
-pub fn used(words: &[u32], keys: &[u8]) {
+pub fn used<W: Write>(out: &mut W, words: &[u32], keys: &[u8]) -> io::Result<()> {
     let leaves = in_use(words, keys, frame::LEAF);
     let small = in_use(words, keys, 1) + in_use(words, keys, 2);
     let large = in_use(words, keys, 3) + in_use(words, keys, 4);
-    text::numbers(b"0 leaves # inner #", leaves, small + large, 0);
+    text::numbers(out, b"0 leaves # inner #", leaves, small + large, 0)
 }
 
 // The stored bytes of a prefix of this length, - for none.
-fn stored(words: &[u32], at: usize, length: u32) {
+fn stored<W: Write>(out: &mut W, words: &[u32], at: usize, length: u32) -> io::Result<()> {
     if length == 0 {
-        text::say(b"-");
+        text::say(out, b"-")?;
     }
     let mut i: u32 = 0;
     while i < 8 {
         if length <= i {
-            return;
+            return Ok(());
         }
-        say::byte((word(words, at, STORED + i as usize) % 256) as u8);
+        say::byte(out, (word(words, at, STORED + i as usize) % 256) as u8)?;
         i += 1;
     }
+    Ok(())
 }
 
 // A branching up to its first child; its kind and its number of children where these are told.
-fn head(words: &[u32], at: usize, told: u32) {
+fn head<W: Write>(out: &mut W, words: &[u32], at: usize, told: u32) -> io::Result<()> {
     let length = word(words, at, header::FULL);
     if (told == line::KINDS) | (told == line::SLOTS) {
         let kind = word(words, at, header::KIND) as u64;
         let n = word(words, at, header::CHILDREN) as u64;
-        text::numbers(b"[k# n# # ", kind, n, length as u64);
+        text::numbers(out, b"[k# n# # ", kind, n, length as u64)?;
     } else {
-        text::numbers(b"[# ", length as u64, 0, 0);
+        text::numbers(out, b"[# ", length as u64, 0, 0)?;
     }
-    stored(words, at, length);
+    stored(out, words, at, length)
 }
 
 // Where the body of an inner record begins.
@@ -149,76 +152,91 @@ fn child(words: &[u32], at: usize, kind: u32, i: u32) -> u32 {
 }
 
 // A slot as the crate numbers them, from 0.
-fn say_slot(slot: u32) {
+fn say_slot<W: Write>(out: &mut W, slot: u32) -> io::Result<()> {
     if 0 < slot {
-        text::labelled(b"@", slot as u64 - 1);
+        text::labelled(out, b"@", slot as u64 - 1)?;
     }
+    Ok(())
 }
 
 // The byte of the child at place i, and its slot where that is told.
-fn say_byte(words: &[u32], at: usize, kind: u32, i: u32, told: u32) {
+fn say_byte<W: Write>(
+    out: &mut W,
+    words: &[u32],
+    at: usize,
+    kind: u32,
+    i: u32,
+    told: u32,
+) -> io::Result<()> {
     let key = word(words, at, body() + i as usize);
-    text::say(b" ");
+    text::say(out, b" ")?;
     if kind <= 2 {
-        say::byte((key % 256) as u8);
-        return;
+        return say::byte(out, (key % 256) as u8);
     }
-    say::byte((i % 256) as u8);
+    say::byte(out, (i % 256) as u8)?;
     if (told == line::SLOTS) & (kind == 3) {
-        say_slot(key);
+        say_slot(out, key)?;
     }
+    Ok(())
 }
 
 // The child at place i of a record, after its byte is said; 0 for none.
-fn branch(words: &[u32], at: usize, kind: u32, i: u32, told: u32) -> u32 {
+fn branch<W: Write>(
+    out: &mut W,
+    words: &[u32],
+    at: usize,
+    kind: u32,
+    i: u32,
+    told: u32,
+) -> io::Result<u32> {
     let below = child(words, at, kind, i);
     if below != 0 {
-        say_byte(words, at, kind, i, told);
-        text::say(b":");
+        say_byte(out, words, at, kind, i, told)?;
+        text::say(out, b":")?;
     }
-    below
+    Ok(below)
 }
 
-fn tail() {
-    text::say(b"]");
+fn tail<W: Write>(out: &mut W) -> io::Result<()> {
+    text::say(out, b"]")
 }
 
 // The tree below a reference, down to so many records; 0 draws nothing.
-fn draw(words: &[u32], keys: &[u8], told: u32, left: u32, reference: u32) {
+fn draw<W: Write>(
+    out: &mut W,
+    words: &[u32],
+    keys: &[u8],
+    told: u32,
+    left: u32,
+    reference: u32,
+) -> io::Result<()> {
     if left == 0 {
-        return;
+        return Ok(());
     }
     if reference == 0 {
-        return;
+        return Ok(());
     }
     let kind = reference % 8;
     if kind == frame::LEAF {
-        say::leaf(words, keys, reference / 8);
-        return;
+        return say::leaf(out, words, keys, reference / 8);
     }
     let at = record(words, keys, reference);
     let n = places(kind);
-    head(words, at, told);
+    head(out, words, at, told)?;
     let mut i: u32 = 0;
     while i < n {
-        draw(
-            words,
-            keys,
-            told,
-            left - 1,
-            branch(words, at, kind, i, told),
-        );
+        let below = branch(out, words, at, kind, i, told)?;
+        draw(out, words, keys, told, left - 1, below)?;
         i += 1;
     }
-    tail();
+    tail(out)
 }
 
 // The whole tree, told as this command asks: at most 64 branchings on a path, and a leaf.
-pub fn tree(words: &[u32], keys: &[u8], told: u32) {
+pub fn tree<W: Write>(out: &mut W, words: &[u32], keys: &[u8], told: u32) -> io::Result<()> {
     let root = trailer(words, frame::ROOT);
     if root == 0 {
-        text::say(b"nothing");
-        return;
+        return text::say(out, b"nothing");
     }
-    draw(words, keys, told, 65, root);
+    draw(out, words, keys, told, 65, root)
 }

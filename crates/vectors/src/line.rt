@@ -1,6 +1,8 @@
 // A line of the input, taken apart.
-ghost use Rattle.std.specs.Prelude.{◌≡◌, ◌≤◌, length};
+ghost use Rattle.std.specs.Prelude.{◌≡◌, ◌≤◌, length, IfOk};
 
+use std::io;
+use std::io::Write;
 use text::read;
 use text::read::Amount;
 
@@ -111,17 +113,17 @@ fn parse(space: &mut [u8], line: &[u8]) -> Command
 }
 
 // The command of a line up to its comment, with its tag at the front of the space: nothing where it has no word, and answered at once where it is no command.
-pub fn taken(space: &mut [u8], line: &[u8]) -> Command
-    ensures { result.length ≤ length space.new }
+pub fn taken<W: Write>(out: &mut W, space: &mut [u8], line: &[u8]) -> io::Result<Command>
+    ensures { IfOk result (λ c. c.length ≤ length space.new) }
 {
     let words = read::before(line, b'#');
     if read::word(words, 0, b' ').len() == 0 {
-        return made(NOTHING, 0, 0);
+        return Ok(made(NOTHING, 0, 0));
     }
     let c = parse(space, words);
     if c.name == UNKNOWN {
-        text::say(b"? no such command\n");
-        return made(NOTHING, 0, 0);
+        text::say(out, b"? no such command\n")?;
+        return Ok(made(NOTHING, 0, 0));
     }
-    c
+    Ok(c)
 }

@@ -7,8 +7,9 @@ mod line; // a line taken apart
 mod say; // answers
 
 use frames::frame;
-use libc::STDIN_FILENO;
 use line::Command;
+use std::io;
+use std::io::Write;
 
 // Room for 256 tags, whatever they are: capacities 256, 64, 16, 5 and 256, so 19 × 256 + 43 × 64 + 315 × 16 + 267 × 5 + 6 × 256 + 16 words, 64 key bytes a leaf,
 // and a scratch byte a record.
@@ -20,28 +21,45 @@ const KEYS: usize = 16384;
 
 const SCRATCH: usize = 597;
 
+// Room for the input.
+const INPUT: usize = 65536;
+
 // An empty directory.
 fn start(words: &mut [u32; WORDS], keys: &mut [u8; KEYS]) -> u32 {
     directory_c::directory_start(words, keys, 256, 64, 16, 5, TAGS)
 }
 
 // Scratch is lent for one call, so each that wants it has its own.
-fn insert(words: &mut [u32; WORDS], keys: &mut [u8; KEYS], tag: &[u8], total: u64) {
+fn insert<W: Write>(
+    out: &mut W,
+    words: &mut [u32; WORDS],
+    keys: &mut [u8; KEYS],
+    tag: &[u8],
+    total: u64,
+) -> io::Result<()> {
     let mut scratch = [0u8; SCRATCH];
     let before = draw::trailer(words, frame::TAGS);
     let a = directory_c::directory_insert(words, keys, &mut scratch, tag, total);
-    say::inserted(a, before, draw::trailer(words, frame::TAGS));
+    say::inserted(out, a, before, draw::trailer(words, frame::TAGS))
 }
 
-fn delete(words: &mut [u32; WORDS], keys: &mut [u8; KEYS], tag: &[u8]) {
+fn delete<W: Write>(
+    out: &mut W,
+    words: &mut [u32; WORDS],
+    keys: &mut [u8; KEYS],
+    tag: &[u8],
+) -> io::Result<()> {
     let mut scratch = [0u8; SCRATCH];
-    say::deleted(directory_c::directory_delete(words, keys, &mut scratch, tag));
+    say::deleted(
+        out,
+        directory_c::directory_delete(words, keys, &mut scratch, tag),
+    )
 }
 
-fn at_or_after(words: &[u32], keys: &[u8], tag: &[u8]) {
+fn at_or_after<W: Write>(out: &mut W, words: &[u32], keys: &[u8], tag: &[u8]) -> io::Result<()> {
     let mut scratch = [0u8; SCRATCH];
     let a = directory_c::directory_first_at_or_after(words, keys, &mut scratch, tag);
-    say::found(words, keys, a);
+    say::found(out, words, keys, a)
 }
 
 fn sound(words: &[u32], keys: &[u8]) -> u32 {
@@ -50,30 +68,36 @@ fn sound(words: &[u32], keys: &[u8]) -> u32 {
 }
 
 // The leaf after a held tag.
-fn next(words: &[u32], keys: &[u8], tag: &[u8]) {
+fn next<W: Write>(out: &mut W, words: &[u32], keys: &[u8], tag: &[u8]) -> io::Result<()> {
     let held = directory_c::directory_search(words, keys, tag);
     if held.number == 1 {
-        text::say(b"9");
-        return;
+        return text::say(out, b"9");
     }
     say::found(
+        out,
         words,
         keys,
         directory_c::directory_next_leaf(words, keys, held.leaf),
-    );
+    )
 }
 
 // A question about a tag.
-fn ask(words: &[u32], keys: &[u8], tag: &[u8], name: u32) {
+fn ask<W: Write>(out: &mut W, words: &[u32], keys: &[u8], tag: &[u8], name: u32) -> io::Result<()> {
     match name {
-        line::AFTER => at_or_after(words, keys, tag),
+        line::AFTER => at_or_after(out, words, keys, tag),
         line::PREFIX => say::found(
+            out,
             words,
             keys,
             directory_c::directory_prefix_search(words, keys, tag),
         ),
-        line::NEXT => next(words, keys, tag),
-        _ => say::found(words, keys, directory_c::directory_search(words, keys, tag)),
+        line::NEXT => next(out, words, keys, tag),
+        _ => say::found(
+            out,
+            words,
+            keys,
+            directory_c::directory_search(words, keys, tag),
+        ),
     }
 }
 
@@ -92,95 +116,125 @@ fn list_length(words: &[u32], keys: &[u8]) -> u32 {
 }
 
 // The leaves along the list, after their number.
-fn list(words: &[u32], keys: &[u8]) {
+fn list<W: Write>(out: &mut W, words: &[u32], keys: &[u8]) -> io::Result<()> {
     let mut left = list_length(words, keys);
-    text::number(left as u64);
+    text::number(out, left as u64)?;
     let mut a = directory_c::directory_minimum(words, keys);
     while 0 < left {
-        say::listed(words, keys, a.leaf);
+        say::listed(out, words, keys, a.leaf)?;
         a = directory_c::directory_next_leaf(words, keys, a.leaf);
         left -= 1;
     }
+    Ok(())
 }
 
 // The ends, the list and the tag count.
-fn tell(words: &[u32], keys: &[u8], name: u32) {
+fn tell<W: Write>(out: &mut W, words: &[u32], keys: &[u8], name: u32) -> io::Result<()> {
     match name {
-        line::MINIMUM => say::found(words, keys, directory_c::directory_minimum(words, keys)),
-        line::MAXIMUM => say::found(words, keys, directory_c::directory_maximum(words, keys)),
-        line::LIST => list(words, keys),
-        _ => text::number(draw::trailer(words, frame::TAGS) as u64),
+        line::MINIMUM => say::found(
+            out,
+            words,
+            keys,
+            directory_c::directory_minimum(words, keys),
+        ),
+        line::MAXIMUM => say::found(
+            out,
+            words,
+            keys,
+            directory_c::directory_maximum(words, keys),
+        ),
+        line::LIST => list(out, words, keys),
+        _ => text::number(out, draw::trailer(words, frame::TAGS) as u64),
     }
 }
 
 // The calls that look at the whole block; one that is not sound is not drawn.
-fn look(words: &[u32], keys: &[u8], name: u32) {
+fn look<W: Write>(out: &mut W, words: &[u32], keys: &[u8], name: u32) -> io::Result<()> {
     let number = sound(words, keys);
     if number != 0 {
-        text::number(number as u64);
-        return;
+        return text::number(out, number as u64);
     }
     if name == line::CHECK {
-        draw::used(words, keys);
-        return;
+        return draw::used(out, words, keys);
     }
-    draw::tree(words, keys, name);
+    draw::tree(out, words, keys, name)
 }
 
 // A command that changes nothing.
-fn read(words: &[u32], keys: &[u8], tag: &[u8], name: u32) {
+fn read<W: Write>(
+    out: &mut W,
+    words: &[u32],
+    keys: &[u8],
+    tag: &[u8],
+    name: u32,
+) -> io::Result<()> {
     if name <= line::NEXT {
-        ask(words, keys, tag, name);
-        return;
+        return ask(out, words, keys, tag, name);
     }
     if name <= line::SLOTS {
-        look(words, keys, name);
-        return;
+        return look(out, words, keys, name);
     }
-    tell(words, keys, name);
+    tell(out, words, keys, name)
 }
 
-fn answer(words: &mut [u32; WORDS], keys: &mut [u8; KEYS], tag: &[u8], c: Command) {
+fn answer<W: Write>(
+    out: &mut W,
+    words: &mut [u32; WORDS],
+    keys: &mut [u8; KEYS],
+    tag: &[u8],
+    c: Command,
+) -> io::Result<()> {
     let name = c.name;
     match name {
-        line::RESET => text::number(start(words, keys) as u64),
-        line::INSERT => insert(words, keys, tag, c.total),
-        line::DELETE => delete(words, keys, tag),
-        _ => read(words, keys, tag, name),
+        line::RESET => text::number(out, start(words, keys) as u64),
+        line::INSERT => insert(out, words, keys, tag, c.total),
+        line::DELETE => delete(out, words, keys, tag),
+        _ => read(out, words, keys, tag, name),
     }
 }
 
 // One line answered.
-fn turn(words: &mut [u32; WORDS], keys: &mut [u8; KEYS], asked: &[u8]) {
+fn turn<W: Write>(
+    out: &mut W,
+    words: &mut [u32; WORDS],
+    keys: &mut [u8; KEYS],
+    asked: &[u8],
+) -> io::Result<()> {
     let mut space = [0u8; 128];
-    let c = line::taken(&mut space, asked);
+    let c = line::taken(out, &mut space, asked)?;
     if c.name == line::NOTHING {
-        return;
+        return Ok(());
     }
     let n = c.length;
-    answer(words, keys, &space[0..n], c);
-    text::say(b"\n");
+    answer(out, words, keys, &space[0..n], c)?;
+    text::say(out, b"\n")
 }
 
 // The lines of the input, which are no more than its bytes.
-fn run(words: &mut [u32; WORDS], keys: &mut [u8; KEYS], input: &[u8]) {
+fn run<W: Write>(
+    out: &mut W,
+    words: &mut [u32; WORDS],
+    keys: &mut [u8; KEYS],
+    input: &[u8],
+) -> io::Result<()> {
     let mut i: u32 = 0;
     while i < 65536 {
         let asked = text::read::word(input, i, b'\n');
         if asked.len() == 0 {
-            return;
+            return Ok(());
         }
-        turn(words, keys, asked);
+        turn(out, words, keys, asked)?;
         i += 1;
     }
+    Ok(())
 }
 
 // The input is read at once, up to 65,536 bytes; the sample has some 34,000.
-fn main() {
+fn main(rt: HostRuntime) -> io::Result<()> {
     let mut words = [0u32; WORDS];
     let mut keys = [0u8; KEYS];
-    let mut input = io::large_buffer();
-    let n = io::read_full(STDIN_FILENO, &mut input);
+    let mut input = [0u8; INPUT];
+    let n = text::front(&mut rt.stdin(), &mut input);
     start(&mut words, &mut keys);
-    run(&mut words, &mut keys, &input[..n]);
+    run(&mut rt.stdout(), &mut words, &mut keys, &input[..n])
 }

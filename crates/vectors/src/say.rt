@@ -1,69 +1,82 @@
 // Answers: numbers in decimal, tags in hexadecimal.
 use directory_c::{DirectoryChanged, DirectoryFound};
-use libc::STDOUT_FILENO;
+use std::io;
+use std::io::Write;
 
-pub fn byte(b: u8) {
-    io::print_hex(STDOUT_FILENO, b as u64, 2);
+pub fn byte<W: Write>(out: &mut W, b: u8) -> io::Result<()> {
+    write!(out, "{b:02x}")
 }
 
 // Bytes in hexadecimal, - for none.
-pub fn bytes(s: &[u8]) {
+pub fn bytes<W: Write>(out: &mut W, s: &[u8]) -> io::Result<()> {
     if s.len() == 0 {
-        text::say(b"-");
+        text::say(out, b"-")?;
     }
     let mut i = 0;
     while i < s.len() {
-        byte(s[i]);
+        byte(out, s[i])?;
         i += 1;
     }
+    Ok(())
 }
 
 // The tag of a leaf.
-fn tag(words: &[u32], keys: &[u8], leaf: u32) {
+fn tag<W: Write>(out: &mut W, words: &[u32], keys: &[u8], leaf: u32) -> io::Result<()> {
     let a = directory_c::directory_leaf_tag(words, keys, leaf);
-    bytes(text::part(keys, a.start, a.length));
+    bytes(out, text::part(keys, a.start, a.length))
 }
 
 // The tag and the total of a leaf, as lists and drawings have them.
-pub fn leaf(words: &[u32], keys: &[u8], leaf: u32) {
-    tag(words, keys, leaf);
+pub fn leaf<W: Write>(out: &mut W, words: &[u32], keys: &[u8], leaf: u32) -> io::Result<()> {
+    tag(out, words, keys, leaf)?;
     let a = directory_c::directory_leaf_facts(words, keys, leaf);
-    text::labelled(b"=", a.total);
+    text::labelled(out, b"=", a.total)
 }
 
 // A leaf of a list.
-pub fn listed(words: &[u32], keys: &[u8], number: u32) {
-    text::say(b" ");
-    leaf(words, keys, number);
+pub fn listed<W: Write>(out: &mut W, words: &[u32], keys: &[u8], number: u32) -> io::Result<()> {
+    text::say(out, b" ")?;
+    leaf(out, words, keys, number)
 }
 
 // The number given back, and the leaf that was found.
-pub fn found(words: &[u32], keys: &[u8], a: DirectoryFound) {
-    text::number(a.number as u64);
+pub fn found<W: Write>(
+    out: &mut W,
+    words: &[u32],
+    keys: &[u8],
+    a: DirectoryFound,
+) -> io::Result<()> {
+    text::number(out, a.number as u64)?;
     if a.number == 0 {
-        text::say(b" ");
-        tag(words, keys, a.leaf);
-        text::labelled(b" ", a.total);
+        text::say(out, b" ")?;
+        tag(out, words, keys, a.leaf)?;
+        text::labelled(out, b" ", a.total)?;
     }
+    Ok(())
 }
 
 // The number given back, and the total that the tag had.
-pub fn deleted(a: DirectoryChanged) {
-    text::number(a.number as u64);
+pub fn deleted<W: Write>(out: &mut W, a: DirectoryChanged) -> io::Result<()> {
+    text::number(out, a.number as u64)?;
     if a.number == 0 {
-        text::labelled(b" ", a.total);
+        text::labelled(out, b" ", a.total)?;
     }
+    Ok(())
 }
 
 // The same, and whether the tag is new: then the count of tags has changed.
-pub fn inserted(a: DirectoryChanged, before: u32, now: u32) {
-    deleted(a);
+pub fn inserted<W: Write>(
+    out: &mut W,
+    a: DirectoryChanged,
+    before: u32,
+    now: u32,
+) -> io::Result<()> {
+    deleted(out, a)?;
     if a.number != 0 {
-        return;
+        return Ok(());
     }
     if before == now {
-        text::say(b" over");
-        return;
+        return text::say(out, b" over");
     }
-    text::say(b" new");
+    text::say(out, b" new")
 }
