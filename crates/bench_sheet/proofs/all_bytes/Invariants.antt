@@ -3,7 +3,7 @@ use Prim.Native.Nat.{◌≤◌, ◌-◌}
 use Rattle.bench_sheet.proofs.all_bytes.Given as goal
 
 abbrev pub invariant-loop-byte : goal.invariant-loop-byte
-invariant-loop-byte l = (byte ≤ 256) × (l.kind ≤ byte)
+invariant-loop-byte g l = (l.byte ≤ 256) × (l.n ≤ l.byte)
 
 abbrev pub decreases-loop-byte : goal.decreases-loop-byte
-decreases-loop-byte l = 256 - byte
+decreases-loop-byte g l = 256 - l.byte

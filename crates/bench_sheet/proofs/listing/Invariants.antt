@@ -3,7 +3,7 @@ use Prim.Native.Nat.{◌≤◌, ◌-◌}
 use Rattle.bench_sheet.proofs.listing.Given as goal
 
 abbrev pub invariant-loop-n : goal.invariant-loop-n
-invariant-loop-n l = (n ≤ 300) × (l.n ≤ n)
+invariant-loop-n g l = (l.n ≤ 300) × (l.rising ≤ l.n)
 
 abbrev pub decreases-loop-n : goal.decreases-loop-n
-decreases-loop-n l = 300 - n
+decreases-loop-n g l = 300 - l.n

@@ -5,7 +5,7 @@ use Prim.Native.Nat.{◌≤◌, ◌-◌}
 use Rattle.rows.proofs.say_stored.Given as goal
 
 abbrev pub invariant-loop-i : goal.invariant-loop-i
-invariant-loop-i l = (length l.stored ≡ 8) × ((l.k ≤ 8) × (l.i ≤ l.k))
+invariant-loop-i g l = (length l.stored ≡ 8) × ((l.k ≤ 8) × (l.i ≤ l.k))
 
 abbrev pub decreases-loop-i : goal.decreases-loop-i
-decreases-loop-i l = l.k - l.i
+decreases-loop-i g l = l.k - l.i

@@ -1,14 +1,10 @@
 -- `record` is safe: a place is asked for only where the frame was tested to fit and the pool to have the record.
 use Rattle.frames.proofs.Frames.{framed}
-use borrow.Author.Tests.{not-false}
 use mathlib.Core.Path.{◌∙◌, sym}
 use Rattle.vectors.proofs.draw.record.Goals as goal
-
-pub frame_at-f-requires : goal.frame_at-f-requires
-frame_at-f-requires c = sym c.frame_fits.ensures ∙ not-false _ c.if-not-frame_fits.false
 
 pub in_pool-requires : goal.in_pool-requires
 in_pool-requires c = framed c.frame_at-f.ensures
 
 pub start_at-requires : goal.start_at-requires
-start_at-requires c = (framed c.frame_at-f.ensures, sym c.in_pool.ensures ∙ not-false _ c.if-not-in_pool.false)
+start_at-requires c = (framed c.frame_at-f.ensures, sym c.in_pool.ensures ∙ c.if-not-in_pool.false)
