@@ -5,7 +5,9 @@ ghost use Rattle.std.specs.Prelude.{[]};
 ghost use Rattle.demands.specs.Calls as calls;
 ghost use Rattle.directory_c.specs.Numbers.{lent, lent_two, caps_of, number_as, found_as, leaf_as, station_as, changed_as, part_as, Does, Replies};
 
-use directory_c::{DirectoryChanged, DirectoryFound, DirectoryLeaf, DirectoryPart, DirectoryStation};
+use directory_c::{
+    DirectoryChanged, DirectoryFound, DirectoryLeaf, DirectoryPart, DirectoryStation,
+};
 
 #[unsafe(no_mangle)]
 pub extern "C" fn directory_start(
