@@ -1,5 +1,5 @@
 -- A listing with totals alone is changed as the listing with leaf numbers is, since changes go by the tags.
-use Prim.Native.Nat.{ℕ, suc, ◌≤◌}
+use Prim.Native.Nat.{ℕ, suc, ◌+◌, ◌≤◌}
 use mathlib.Core.Path.{◌≡◌, refl, sym, ap, ap₂, subst, ◌∙◌}
 use mathlib.Core.Logic.{ite}
 use mathlib.Core.List.{[], ◌∷◌, ◌++◌}
