@@ -200,7 +200,7 @@ def check(crate, work, limit):
     """What the checker says of the crate as it is now, and its first error. `rt check` refuses in seconds, over what it kept; what it accepts is put to `rt verdict`, which proves from nothing."""
     said, status = run("check", crate, work, limit)
     if status == 0:
-        said, status = run("verdict", crate, work)
+        said, status = run("verdict", crate, work, limit)
     first = next((line for line in said.splitlines() if ": error" in line or ": no proof: expected" in line), "")
     if status == 0:
         return "survived", first

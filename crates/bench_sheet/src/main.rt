@@ -143,7 +143,7 @@ fn say_root<W: Write>(out: &mut W, before: u32, now: u32, byte: u32) -> io::Resu
     Ok(now)
 }
 
-// 1 where the tag was accepted, else 0 and a line.
+// 1 where the tag was accepted, else 0 and a line. An error is the output's, and leaves nothing else behind.
 fn accepted<W: Write>(out: &mut W, number: u32, byte: u32) -> io::Result<u32>
     ensures { IfOk result (λ n. n ≤ 1) }
 {
@@ -154,7 +154,7 @@ fn accepted<W: Write>(out: &mut W, number: u32, byte: u32) -> io::Result<u32>
     Ok(0)
 }
 
-// The tag of one byte goes in with the total 1000 + byte, or out.
+// The tag of one byte goes in with the total 1000 + byte, or out. An error is the output's, and leaves words and key bytes as the call left them.
 fn byte_turn<W: Write>(
     out: &mut W,
     words: &mut [u32; WORDS],

@@ -76,7 +76,7 @@ fn after(byte: usize, b: u32) -> usize
     next
 }
 
-// The first child at or after the byte; answers the byte to go on from.
+// The first child at or after the byte; answers the byte to go on from. An error is the output's, and leaves nothing else behind.
 fn say_from<W: Write>(
     out: &mut W,
     rec: &[u32],

@@ -37,7 +37,8 @@ fn at_place(place: u32, a: u64, b: u64, c: u64) -> u64 {
     }
 }
 
-// A byte of a form: the text for a $, the number of that place for a #, else the byte. Answers the place of the next number.
+// A byte of a form: the text for a $, the number of that place for a #, else the byte. Answers the place of the next number. An error is the output's, here and in all that prints,
+// and leaves what else is lent as it was.
 fn byte_of<W: Write>(out: &mut W, b: u8, text: &[u8], n: u64, place: u32) -> io::Result<u32>
     requires { place < 3 }
     ensures { IfOk result (λ p. p < 3) }

@@ -112,9 +112,11 @@ fn parse(space: &mut [u8], line: &[u8]) -> Command
     made(name, 0, 0)
 }
 
-// The command of a line up to its comment, with its tag at the front of the space: nothing where it has no word, and answered at once where it is no command.
+// The command of a line up to its comment, with its tag at the front of the space: nothing where it has no word, and answered at once where it is no command. An
+// error is the output's, at that answer, and leaves the space as long as it was.
 pub fn taken<W: Write>(out: &mut W, space: &mut [u8], line: &[u8]) -> io::Result<Command>
-    ensures { IfOk result (λ c. c.length ≤ length space.new) }
+    ensures ok { IfOk result (λ c. c.length ≤ length space.new) }
+    ensures kept { length space.new ≡ length space.old }
 {
     let words = read::before(line, b'#');
     if read::word(words, 0, b' ').len() == 0 {
