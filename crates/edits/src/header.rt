@@ -5,7 +5,6 @@ ghost use Rattle.frames.specs.Form.{header, word_of, packed, Stores, pack_of};
 ghost use Rattle.edits.specs.Head.{set_prefix, set_head};
 
 use frames::form::Form;
-use lists::edit;
 use prefix::Prefix;
 use records::header;
 
@@ -35,11 +34,11 @@ fn set_stored(rec: &mut [u32], form: Form, stored: [u32; 8])
     let a = 3 + form.counts as usize;
     if form.prefix == 8 {
         let e = a + 8;
-        edit::copy(&mut rec[a..e], &stored);
+        rec[a..e].copy_from_slice(&stored);
     } else {
         let e = a + 2;
         let two = pack(stored);
-        edit::copy(&mut rec[a..e], &two);
+        rec[a..e].copy_from_slice(&two);
     }
 }
 

@@ -3,7 +3,6 @@ ghost use Rattle.std.specs.Prelude.{◌≡◌, ◌<◌, length, set};
 ghost use Rattle.frames.specs.Kind.{byte_values};
 
 use frames::kind::BYTES;
-use lists::edit;
 
 // The reference for a byte, 0 to take the child out.
 pub fn direct_set(body: &mut [u32], byte: usize, reference: u32)
@@ -19,7 +18,7 @@ pub fn direct_spread(body: &[u32]) -> [u32; BYTES]
     ensures { result ≡ body.now }
 {
     let mut places = [0u32; BYTES];
-    edit::copy(&mut places, body);
+    places.copy_from_slice(body);
     places
 }
 
@@ -28,5 +27,5 @@ pub fn direct_fill(body: &mut [u32], places: [u32; BYTES])
     requires { length body.old ≡ byte_values }
     ensures { body.new ≡ places }
 {
-    edit::copy(body, &places);
+    body.copy_from_slice(&places);
 }

@@ -15,7 +15,7 @@ use frames::form::Form;
 use frames::frame::num;
 use frames::kind::BYTES;
 use frames::{form, kind};
-use lists::{edit, scan};
+use lists::scan;
 use prefix::Prefix;
 use records::header::CHILDREN;
 
@@ -126,7 +126,7 @@ pub fn build(rec: &mut [u32], form: Form, kind: u32, p: Prefix, places: [u32; BY
     let n = scan::count_nonzero(&places);
     let h = form::header_of(form);
     let e = form::record_words(form, kind);
-    edit::clear(rec);
+    rec.fill(0);
     body_fill(&mut rec[h..e], kind, places);
     header::set_head(rec, form, kind, n as u32, p);
 }

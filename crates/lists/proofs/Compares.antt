@@ -1,51 +1,22 @@
--- The laws of `Compare`: the loop that runs along two lists, and what `shared`, `same` and `less` say of the lists and of each other.
-use Prim.Native.Nat.{ℕ, zero, suc, ◌+◌, ◌≤◌, ◌<◌, min}
+-- The laws of `Compare`: what `shared`, `same`, `begins` and `less` say of the lists and of each other.
+use Prim.Native.Nat.{ℕ, zero, suc, ◌≤◌, ◌<◌, min}
 use mathlib.Core.Path.{◌≡◌, refl, sym, ap, ◌∙◌}
 use mathlib.Core.List.{List, [], ◌∷◌, ◌++◌}
-use mathlib.Core.Bool.{Bool, true, false, ◌&&◌, ◌||◌, and_assoc, and-true, and_self, or-false, true≢false, false≢true}
+use mathlib.Core.Bool.{Bool, true, false, ◌&&◌, ◌||◌, or-false, true≢false, false≢true}
 use native.Mathlib.Decide.{dec_lt}
 use native.Mathlib.Omega.{arith}
 use borrow.Author.Tests.{eqb-true, eqb-false, eq-eqb, ne_eqb, lt-ltb, le-ltb}
-use lib.ListN.{length, get_or, take, drop, length-take, drop_of_length-le}
+use lib.ListN.{length, get_or, take, length-take}
 use lib.Seq.{get_or-take}
+use lib.Pointwise.{pointwise}
 use lib.Dec.{eqb, ltb, eqb-zero-suc, eqb-suc-suc}
 use Rattle.lists.specs.Scan.{choose}
 use Rattle.lists.specs.Compare.{shared, same, begins, less}
-use Rattle.lists.proofs.Scans.{step}
 use Rattle.lists.proofs.Tests.{both, and_both}
-
--- both lists agree before i
-pub record Shared (s t : List ℕ) (i : ℕ) : Type 0 where
-  pub within : i ≤ length s
-  pub beside : i ≤ length t
-  pub left : shared s t ≡ i + shared (drop i s) (drop i t)
-
-pub shared_start : {s t : List ℕ} → Shared s t 0
-shared_start = record { within = omega arith; beside = omega arith; left = omega arith }
 
 pub shared_nil : (s : List ℕ) → shared s [] ≡ 0
 shared_nil [] = refl
 shared_nil (x ∷ xs) = refl
-
-module _ {s t : List ℕ} {i : ℕ} (r : Shared s t i) where
-  shared_step : (b : Bool) → eqb (get_or s i 0) (get_or t i 0) ≡ b → i < length s → i < length t
-      → shared (drop i s) (drop i t) ≡ choose b (suc (shared (drop (i + 1) s) (drop (i + 1) t))) 0
-  shared_step b e h k =
-      ap (λ (l : List ℕ). shared l (drop i t)) (step s i h)
-      ∙ ap (shared (get_or s i 0 ∷ drop (i + 1) s)) (step t i k)
-      ∙ ap (λ (c : Bool). choose c (suc (shared (drop (i + 1) s) (drop (i + 1) t))) 0) e
-
-  pub shared_on : eqb (get_or s i 0) (get_or t i 0) ≡ true → i < length s → i < length t → Shared s t (i + 1)
-  shared_on e h k = record { within = omega arith; beside = omega arith; left = omega (arith, shared_step true e h k) }
-
-  pub shared_off : eqb (get_or s i 0) (get_or t i 0) ≡ false → i < length s → i < length t → i ≡ shared s t
-  shared_off e h k = omega (arith, shared_step false e h k)
-
-  pub shared_end : length s ≤ i → i ≡ shared s t
-  shared_end h = omega (arith, ap (λ (l : List ℕ). shared l (drop i t)) (drop_of_length-le s h))
-
-  pub shared_out : length t ≤ i → i ≡ shared s t
-  shared_out h = omega (arith, ap (shared (drop i s)) (drop_of_length-le t h) ∙ shared_nil (drop i s))
 
 -- ── what the shared beginning is ──
 pub shared_le : (s t : List ℕ) → (shared s t ≤ length s) × (shared s t ≤ length t)
@@ -135,18 +106,7 @@ pub shared_self : (s : List ℕ) → shared s s ≡ length s
 shared_self [] = refl
 shared_self (x ∷ xs) = ap (λ (b : Bool). choose b (suc (shared xs xs)) 0) (eq-eqb x x refl) ∙ ap suc (shared_self xs)
 
--- ── the same ──
-pub same_shared : (s t : List ℕ) → same s t ≡ eqb (shared s t) (length s) && eqb (shared s t) (length t)
-same_shared [] [] = refl
-same_shared [] (y ∷ ys) = sym (eqb-zero-suc (length ys))
-same_shared (x ∷ xs) [] = ap (λ (b : Bool). b && true) (sym (eqb-zero-suc (length xs)))
-same_shared (x ∷ xs) (y ∷ ys) = go (eqb x y) (same_shared xs ys)
-  where
-    go : (b : Bool) → same xs ys ≡ eqb (shared xs ys) (length xs) && eqb (shared xs ys) (length ys)
-        → b && same xs ys ≡ eqb (choose b (suc (shared xs ys)) 0) (suc (length xs)) && eqb (choose b (suc (shared xs ys)) 0) (suc (length ys))
-    go true ih = rw (eqb-suc-suc (shared xs ys) (length xs), eqb-suc-suc (shared xs ys) (length ys)) ih
-    go false ih = ap (λ (b : Bool). b && eqb 0 (suc (length ys))) (sym (eqb-zero-suc (length xs)))
-
+-- ── the same, and what begins ──
 -- the left begins the right exactly where they share its whole length
 pub begins_shared : (s t : List ℕ) → begins s t ≡ eqb (shared s t) (length s)
 begins_shared [] t = refl
@@ -157,40 +117,11 @@ begins_shared (x ∷ xs) (y ∷ ys) = go (eqb x y) (begins_shared xs ys)
     go true ih = rw (eqb-suc-suc (shared xs ys) (length xs)) ih
     go false ih = sym (eqb-zero-suc (length xs))
 
--- no list begins a shorter one
-pub begins_long : (s t : List ℕ) → length t < length s → false ≡ begins s t
-begins_long s t h = sym (begins_shared s t ∙ ne_eqb (shared s t) (length s) (omega (arith, shared_le s t)))
-
--- of two lists of one length that begins the other exactly where they are the same
-pub same_begins : (s t : List ℕ) → length s ≡ length t → begins s t ≡ same s t
-same_begins s t h =
-    let b = eqb (shared s t) (length s) in
-    begins_shared s t ∙ sym (and_self b) ∙ ap (λ (n : ℕ). b && eqb (shared s t) n) h ∙ sym (same_shared s t)
-
--- the left begins the right, which is no shorter: `ok` says whether they agree before i
-pub record Begins (s t : List ℕ) (i : ℕ) (ok : Bool) : Type 0 where
-  pub within : i ≤ length s
-  pub fits : length s ≤ length t
-  pub left : begins s t ≡ ok && begins (drop i s) (drop i t)
-
-pub begins_start : {s t : List ℕ} → length s ≤ length t → Begins s t 0 true
-begins_start h = record { within = omega arith; fits = h; left = refl }
-
-module _ {s t : List ℕ} {i : ℕ} {ok : Bool} (r : Begins s t i ok) where
-  pub begins_on : i < length s → Begins s t (i + 1) (ok && eqb (get_or s i 0) (get_or t i 0))
-  begins_on h =
-      let x = get_or s i 0 in
-      let y = get_or t i 0 in
-      let e : begins (drop i s) (drop i t) ≡ eqb x y && begins (drop (i + 1) s) (drop (i + 1) t) =
-      ap (λ (l : List ℕ). begins l (drop i t)) (step s i h) ∙ ap (begins (x ∷ drop (i + 1) s)) (step t i (omega (arith, r.fits))) in
-      record {
-        within = omega arith;
-        fits = r.fits;
-        left = r.left ∙ ap (λ (b : Bool). ok && b) e ∙ sym (and_assoc ok (eqb x y) (begins (drop (i + 1) s) (drop (i + 1) t)));
-      }
-
-  pub begins_end : length s ≤ i → ok ≡ begins s t
-  begins_end h = sym (r.left ∙ ap (λ (l : List ℕ). ok && begins l (drop i t)) (drop_of_length-le s h) ∙ and-true ok)
+-- and by the elements, pair by pair
+pub begins_starts : (s t : List ℕ) → begins s t ≡ pointwise eqb s (take (length s) t)
+begins_starts [] t = refl
+begins_starts (x ∷ xs) [] = refl
+begins_starts (x ∷ xs) (y ∷ ys) = ap (λ (b : Bool). eqb x y && b) (begins_starts xs ys)
 
 -- and so the right goes on from it, and back
 pub begins_rest : (s t : List ℕ) → begins s t ≡ true → (z : List ℕ) × (t ≡ s ++ z)

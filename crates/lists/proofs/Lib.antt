@@ -7,3 +7,4 @@ pub mod Built
 pub mod Alike
 pub mod Tables
 pub mod Pieces
+pub mod Words

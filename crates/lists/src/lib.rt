@@ -3,4 +3,4 @@
 
 pub mod scan; // tests of every element, first and last places, counts
 pub mod compare; // two runs of bytes beside each other
-pub mod edit; // copies, clears, one element shifted in or out
+pub mod edit; // a run copied in and filled up with 0, one element shifted in or out

@@ -3,8 +3,6 @@ ghost use Rattle.std.specs.Prelude.{◌≡◌, ◌%◌, ◌/◌, ◌^◌, length
 ghost use Rattle.frames.specs.Kind.{leaf_size};
 ghost use Rattle.pools.specs.Leaf.{leaf_words, set_total};
 
-use lists::edit;
-
 // The low half of a total.
 fn low_half(total: u64) -> u32
     ensures { result ≡ total % 2 ^ 32 }
@@ -25,7 +23,7 @@ pub fn write_leaf(rec: &mut [u32], len: u32, previous: u32, next: u32, total: u6
     ensures { rec.new ≡ leaf_words len previous next total }
 {
     let leaf = [1, len, previous, next, low_half(total), high_half(total)];
-    edit::copy(rec, &leaf);
+    rec.copy_from_slice(&leaf);
 }
 
 // Another total.

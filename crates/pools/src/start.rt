@@ -7,7 +7,6 @@ ghost use Rattle.pools.specs.Start.{start_fits, trailer_words, out, start_in, st
 use frames::form::Form;
 use frames::frame::Caps;
 use frames::{form, frame};
-use lists::edit;
 
 // What start says: done, or a refusal.
 #[derive(Clone, Copy)]
@@ -64,9 +63,9 @@ fn start_in(words: &mut [u32], keys: &mut [u8], form: Form, c: Caps) -> Started
     if start_fits(form, c, n, keys.len()) {
         let t = trailer_words(form, c);
         let a = n - 16;
-        edit::clear(words);
-        edit::clear_bytes(keys);
-        edit::copy(&mut words[a..n], &t);
+        words.fill(0);
+        keys.fill(0);
+        words[a..n].copy_from_slice(&t);
         Started::Done
     } else {
         Started::Refused

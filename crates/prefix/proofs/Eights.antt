@@ -1,6 +1,6 @@
 -- The first eight of a list, and 0 after them: its elements, and what in a list can't be seen in them.
-use Prim.Native.Nat.{ℕ, ◌+◌, ◌-◌, ◌≤◌, ◌<◌}
-use mathlib.Core.Path.{◌≡◌, sym, ap, ◌∙◌}
+use Prim.Native.Nat.{ℕ, zero, suc, ◌+◌, ◌-◌, ◌≤◌, ◌<◌}
+use mathlib.Core.Path.{◌≡◌, sym, ap, subst, ◌∙◌}
 use mathlib.Core.List.{List, ◌++◌, append_assoc}
 use mathlib.Core.Bool.{true}
 use native.Mathlib.Omega.{arith}
@@ -9,6 +9,9 @@ use borrow.Author.Tests.{le-leb, leb-true}
 use lib.ListN.{length, get_or, take, drop, replicate, length-append, length-take, length-drop, take-append-drop, get_or-append, get_or-eq_default}
 use lib.Seq.{ext_get_or, get_or-take, get_or-drop, get_or-append-add, length-take-le, take-append-le, take-take, take_all}
 use lib.Dec.{leb}
+use denote.Param.Members.{Mut}
+use Rattle.std.specs.Fn.{Called}
+use Rattle.std.specs.Array.{IsFromFnResult, IsFromFnResultFrom}
 use Rattle.lists.specs.Scan.{all_pass, at_most}
 use Rattle.lists.proofs.Tests.{and_both, all_at, all_by, all_append, all_take, zeros_all, zeros_at}
 use Rattle.prefix.specs.Run.{capped, eight}
@@ -28,6 +31,25 @@ eight_at l i h = get_or-take 8 (l ++ replicate 8 0) i 0 h ∙ go (dec_lt i (leng
     go : Dec (i < length l) → get_or (l ++ replicate 8 0) i 0 ≡ get_or l i 0
     go (yes k) = get_or-append l (replicate 8 0) 0 i k
     go (no k) = append_at l (replicate 8 0) i (omega arith) ∙ zeros_at 8 (i - length l) ∙ sym (get_or-eq_default l 0 (omega arith))
+
+-- what `array::from_fn` makes with a closure that stays as it is and gives the list's element at its index
+module _ {F : Type 0} (g : Mut F (ℕ × Unit {0}) ℕ) (f : F) (l : List ℕ) (gives : (i y : ℕ) (q : F) → Called g f (i, tt) y q → (q ≡ f) × (y ≡ get_or l i 0)) where
+  each_at : (ys : List ℕ) (i n : ℕ) → IsFromFnResultFrom g f ys i n → (k : ℕ) → i ≤ k → k < i + n → get_or ys k 0 ≡ get_or l k 0
+  each_at ys i zero m k a b = absurd (omega arith)
+  each_at ys i (suc n) m k a b =
+      let here : (m.0 ≡ f) × (m.1 ≡ get_or l i 0) = gives i m.1 m.0 m.3 in
+      go (m.2.1 0 ∙ here.1) (λ h. each_at ys (i + 1) n (subst (λ p. IsFromFnResultFrom g p ys (i + 1) n) here.0 m.4) k h (omega arith)) (dec_lt i k)
+    where
+      go : get_or ys i 0 ≡ get_or l i 0 → (i + 1 ≤ k → get_or ys k 0 ≡ get_or l k 0) → Dec (i < k) → get_or ys k 0 ≡ get_or l k 0
+      go here later (yes h) = later (omega arith)
+      go here later (no h) =
+          let q : k ≡ i = omega arith in
+          ap (λ (j : ℕ). get_or ys j 0) q ∙ here ∙ ap (λ (j : ℕ). get_or l j 0) (sym q)
+
+  pub eight_made : (ys : List ℕ) → IsFromFnResult g f ys 8 → ys ≡ eight l
+  eight_made ys m =
+      ext_get_or 0 ys (eight l) (m.long ∙ sym (eight_length l))
+      (λ k h. let q : k < 8 = omega (arith, m.long) in each_at ys 0 8 m.each k (omega arith) (omega arith) ∙ sym (eight_at l k q))
 
 -- taking eight at most, by either count
 pub capped_take : (l : List ℕ) → take (capped (length l)) l ≡ take 8 l

@@ -4,18 +4,13 @@ ghost use Rattle.prefix.specs.Run.{eight, prefix_of, ltrim_of, split_of, push_of
 
 use super::{FullLen, Prefix};
 use lists::scan;
+use std::array;
 
 // The first eight bytes of a run, and 0 after them.
 fn first_eight(run: &[u8]) -> [u32; 8]
     ensures { result ≡ eight run.now }
 {
-    let mut stored = [0u32; 8];
-    let mut i = 0;
-    while i < 8 {
-        stored[i] = scan::byte_at(run, i) as u32;
-        i += 1;
-    }
-    stored
+    array::from_fn(|i| u32::from(scan::byte_at(run, i)))
 }
 
 // The prefix of a run.
@@ -35,23 +30,17 @@ fn joined_at(s: &[u32], t: &[u32], i: usize) -> u32
     ensures { result ≡ get_or (s.now ++ t.now) i 0 }
 {
     if i < s.len() {
-        return s[i];
+        s[i]
+    } else {
+        t.get(i - s.len()).copied().unwrap_or(0)
     }
-    let j = i - s.len();
-    if j < t.len() { t[j] } else { 0 }
 }
 
 // The first eight numbers of the two runs, one after the other, and 0 after them.
 fn joined(s: &[u32], t: &[u32]) -> [u32; 8]
     ensures { result ≡ eight (s.now ++ t.now) }
 {
-    let mut stored = [0u32; 8];
-    let mut i = 0;
-    while i < 8 {
-        stored[i] = joined_at(s, t, i);
-        i += 1;
-    }
-    stored
+    array::from_fn(|i| joined_at(s, t, i))
 }
 
 // The prefix without its first `n` bytes, where all of it is stored.
@@ -62,11 +51,10 @@ fn ltrim_by(p: Prefix, n: u32) -> Prefix
     let s = super::stored_len(p.full);
     let k = s.0 as usize;
     let a = n as usize;
-    let nothing = [0u32; 1]; // only its empty part is used, as the run in front
     let stored = p.stored;
     Prefix {
         full: FullLen(p.full.0 - n),
-        stored: joined(&nothing[0..0], &stored[a..k]),
+        stored: joined(&[], &stored[a..k]),
     }
 }
 
@@ -103,7 +91,7 @@ pub fn merge(parent: Prefix, byte: u8, child: Prefix) -> Prefix
     requires { (parent.full.0 + child.full.0 < 2 ^ 31) × ((length parent.stored ≡ 8) × (length child.stored ≡ 8)) }
     ensures { result ≡ merge_of parent byte child }
 {
-    let b = [byte as u32];
+    let b = [u32::from(byte)];
     let front = push_prefix(parent, &b, 1);
     let s = super::stored_len(child.full);
     let k = s.0 as usize;

@@ -9,7 +9,6 @@ use super::well_formed::{Seen, Visit};
 use super::{marks, sweep, well_formed};
 use frames::frame;
 use frames::frame::Frame;
-use lists::edit;
 
 // Done, damaged, or scratch shorter than the five capacities added.
 #[derive(Clone, Copy)]
@@ -65,7 +64,7 @@ fn whole_anew(marks: &mut [u8], words: &[u32], keys: &[u8], f: Frame) -> bool
     requires { FrameOf f words.now keys.now × (length marks.old ≡ places_in f) }
     ensures { (result ≡ whole_by f words.now keys.now) × (length marks.new ≡ places_in f) }
 {
-    edit::clear_bytes(marks);
+    marks.fill(0);
     whole(marks, words, keys, f)
 }
 
@@ -82,7 +81,7 @@ pub fn check(words: &[u32], keys: &[u8], scratch: &mut [u8]) -> Checked
         return Checked::ShortScratch;
     }
     let sound = whole_anew(&mut scratch[0..n], words, keys, f);
-    edit::clear_bytes(&mut scratch[0..n]);
+    scratch[0..n].fill(0);
     if sound {
         return Checked::Sound;
     }

@@ -92,7 +92,7 @@ fn clear_at(words: &mut [u32], keys: &[u8], f: Frame, n: u32)
 {
     let start = leaf_start(words, keys, f, n);
     let end = start + LEAF_WORDS;
-    edit::clear(&mut words[start..end]);
+    words[start..end].fill(0);
 }
 
 // Its key bytes all 0.
@@ -102,7 +102,7 @@ fn key_out(keys: &mut [u8], words: &[u32], f: Frame, n: u32)
 {
     let start = key_start(words, keys, f, n);
     let end = start + f.form.limit as usize;
-    edit::clear_bytes(&mut keys[start..end]);
+    keys[start..end].fill(0);
 }
 
 // Leaf `n` taken out from between its neighbours, and cleared.

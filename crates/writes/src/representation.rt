@@ -12,7 +12,6 @@ use edits::{header, representation};
 use frames::frame::Frame;
 use frames::kind::BYTES;
 use frames::{form, frame};
-use lists::edit;
 use prefix::Prefix;
 use records::header::prefix_at;
 
@@ -77,7 +76,7 @@ pub fn clear_at(words: &mut [u32], keys: &[u8], f: Frame, reference: u32)
     let part = part_at(words, keys, f, reference);
     let a = part.start;
     let e = part.end;
-    edit::clear(&mut words[a..e]);
+    words[a..e].fill(0);
 }
 
 // A branching with two children, `r` for the byte `b` and `s` for the byte `c`.

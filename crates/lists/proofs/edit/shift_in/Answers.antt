@@ -1,16 +1,11 @@
-use mathlib.Core.Path.{refl}
-use Rattle.lists.proofs.Edits.{rest_start, rest_on, rest_end, shift_in_start}
-use borrow.Author.Rules.{rules}
+-- `edit::shift_in` meets its contract: what `copy_within` moved, and the place written.
+use native.Mathlib.Omega.{arith}
+use Rattle.lists.proofs.Edits.{shift_in_is, shift_in_end}
 use Rattle.lists.proofs.edit.shift_in.Goals as goal
 
-pub loop-i-init : goal.loop-i-init
-loop-i-init c = rest_start c.requires (shift_in_start _ _ _)
+pub returns-then-at-s : goal.returns-then-at-s
+returns-then-at-s c = let w = c.copy_within.ensures in
+    shift_in_is c.args.s.now _ c.args.at (omega arith) w.len (λ k d l. w.by_index.1 k d (omega arith)) c.args.x w.by_index.0
 
-pub loop-i-preserved : goal.loop-i-preserved
-loop-i-preserved c = rest_on c.loop-i.invariant _ (λ ys. refl) c.loop-i-test.true
-
-pub shape_of-s : goal.shape_of-s
-shape_of-s c = c.loop-i.invariant.long
-
-pub returns : goal.returns
-returns c = rest_end c.loop-i.invariant refl (search rules)
+pub returns-else-at-s : goal.returns-else-at-s
+returns-else-at-s c = shift_in_end c.args.s.now c.args.at c.args.x (omega arith)

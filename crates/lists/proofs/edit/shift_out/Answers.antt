@@ -1,16 +1,7 @@
-use native.Mathlib.Omega.{arith}
-use Rattle.lists.proofs.Edits.{out_start, out_on, out_end}
-use borrow.Author.Rules.{rules}
+-- `edit::shift_out` meets its contract: what `copy_within` moved, and the place written.
+use Rattle.lists.proofs.Edits.{shift_out_is}
 use Rattle.lists.proofs.edit.shift_out.Goals as goal
 
-pub loop-i-init : goal.loop-i-init
-loop-i-init c = out_start (omega arith)
-
-pub loop-i-preserved : goal.loop-i-preserved
-loop-i-preserved c = out_on c.loop-i.invariant c.loop-i-test.true
-
-pub shape_of-s : goal.shape_of-s
-shape_of-s c = c.loop-i.invariant.long
-
 pub returns : goal.returns
-returns c = out_end c.loop-i.invariant (search rules)
+returns c = let w = c.copy_within.ensures in
+    shift_out_is c.args.s.now _ c.args.at c.requires w.len w.by_index.1 w.by_index.0

@@ -1,12 +1,12 @@
-use borrow.Author.Rules.{rules}
-use Rattle.lists.proofs.Scans.{all_start, all_on, all_end}
+-- `scan::all_at_most` meets its contract: what the fold gives is the test of every element.
+use Rattle.std.proofs.Common.{rules, ◌≡◌, ◌∙◌, true, ◌&&◌}
+use Rattle.std.proofs.iter.runs.Made.{chains}
+use Rattle.std.specs.List.{fold}
+use lib.Dec.{leb}
+use Rattle.lists.specs.Scan.{at_most}
+use Rattle.lists.proofs.Words.{fold_all}
 use Rattle.lists.proofs.scan.all_at_most.Goals as goal
 
-pub loop-i-init : goal.loop-i-init
-loop-i-init c = all_start
-
-pub loop-i-preserved : goal.loop-i-preserved
-loop-i-preserved c = all_on c.loop-i.invariant (search rules)
-
 pub returns : goal.returns
-returns c = all_end c.loop-i.invariant (search rules)
+returns c = let q : c.fold.result ≡ fold (λ ok x. ok && leb x c.args.b) true c.args.s.now = search (rules, chains) in
+    q ∙ fold_all (at_most c.args.b) true c.args.s.now

@@ -1,16 +1,13 @@
-use borrow.Author.Tests.{eq-eqb, ne_eqb}
-use Rattle.lists.proofs.Scans.{first_start, first_on, first_at, first_end}
-use borrow.Author.Rules.{rules}
+-- `scan::first_equal` meets its contract: `position` finds the first that passes.
+use Rattle.std.proofs.Common.{rules, ◌∙◌}
+use Rattle.std.proofs.lemmas.Iterator.{YieldsList-from_slice}
+use Rattle.std.proofs.lemmas.Iterator.Search.{position_from_yields_List}
+use borrow.Author.Tests.{tests}
+use Rattle.lists.specs.Scan.{is}
+use Rattle.lists.proofs.Words.{first_found}
 use Rattle.lists.proofs.scan.first_equal.Goals as goal
 
-pub loop-i-init : goal.loop-i-init
-loop-i-init c = first_start
-
-pub loop-i-preserved : goal.loop-i-preserved
-loop-i-preserved c = first_on c.loop-i.invariant (ne_eqb _ _ c.if-s-i.true) (search rules)
-
-pub returns-else-s-i : goal.returns-else-s-i
-returns-else-s-i c = first_at c.loop-i.invariant (eq-eqb _ _ c.if-s-i.false) (search rules)
-
-pub returns-after-loop-i : goal.returns-after-loop-i
-returns-after-loop-i c = first_end c.loop-i.invariant (search rules)
+pub returns : goal.returns
+returns c = let x = c.args.x in
+    let s = c.args.s.now in
+    c.unwrap_or.ensures ∙ first_found (is x) s c.position.result (position_from_yields_List (is x) _ _ _ c.position.ensures.ran (YieldsList-from_slice s cc) (λ x b q k. search (rules, tests)))

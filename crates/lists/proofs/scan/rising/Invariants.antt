@@ -1,11 +1,7 @@
--- `scan::rising` meets its contract: `ok` is the answer for what stands before `i`, and with what is left it is that of the whole.
-use Prim.Native.Nat.{◌-◌}
-use lib.ListN.{length}
-use Rattle.lists.proofs.Scans.{Rises}
+-- `scan::rising` meets its contract: `ok` is the answer as far as `last`, and with what is left after it that of the whole.
+use Rattle.std.proofs.Common.{◌≡◌, ◌+◌, ◌&&◌, drop}
+use Rattle.lists.specs.Scan.{rises}
 use Rattle.lists.proofs.scan.rising.Given as goal
 
-abbrev pub invariant-loop-i : goal.invariant-loop-i
-invariant-loop-i l = Rises l.s l.i l.lo l.ok
-
-abbrev pub decreases-loop-i : goal.decreases-loop-i
-decreases-loop-i l = length l.s - l.i
+abbrev pub invariant-loop-x : goal.invariant-loop-x
+invariant-loop-x l = rises 0 l.s ≡ l.ok && rises (l.last + 1) (drop l.x-index l.rest)

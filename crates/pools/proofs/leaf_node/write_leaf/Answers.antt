@@ -4,4 +4,4 @@ use Rattle.pools.proofs.leaf_node.write_leaf.Goals as goal
 
 pub returns : goal.returns
 unfolding leaf_words
-returns c = rw (← c.low_half.ensures, ← c.high_half.ensures) c.copy.ensures
+returns c = rw (← c.low_half.ensures, ← c.high_half.ensures) c.copy_from_slice.ensures.after

@@ -14,13 +14,13 @@ trailer_words-t-requires c = (c.requires, (starts_small _ _ _ _ c.start_fits.ens
 pub overflow_sub-a : goal.overflow_sub-a
 overflow_sub-a c = (starts_small _ _ _ _ c.start_fits.ensures c.if-start_fits.true).1
 
-pub copy-requires : goal.copy-requires
+pub copy_from_slice-requires : goal.copy_from_slice-requires
 unfolding trailer_words
-copy-requires c = simp (length-take, length-drop) (omega (arith, ap length c.clear.ensures, length-replicate {A = ℕ} (length c.args.words.now) 0, ap length c.trailer_words-t.ensures, (starts_small _ _ _ _ c.start_fits.ensures c.if-start_fits.true).1))
+copy_from_slice-requires c = simp (length-take, length-drop) (omega (arith, ap length (c.fill.ensures.after (λ y e. e)), length-replicate {A = ℕ} (length c.args.words.now) 0, ap length c.trailer_words-t.ensures, (starts_small _ _ _ _ c.start_fits.ensures c.if-start_fits.true).1))
 
 pub returns-then-start_fits : goal.returns-then-start_fits
 unfolding splice
-returns-then-start_fits c = start_done c.args.words.now c.args.keys.now c.args.form c.args.c c.start_fits.ensures c.if-start_fits.true c.clear.new.s c.copy.new.to c.clear_bytes.new.s c.clear.ensures c.copy.ensures c.trailer_words-t.ensures c.clear_bytes.ensures
+returns-then-start_fits c = start_done c.args.words.now c.args.keys.now c.args.form c.args.c c.start_fits.ensures c.if-start_fits.true c.fill.new.self c.copy_from_slice.new.self c.fill-then-start_fits.new.self (c.fill.ensures.after (λ y e. e)) c.copy_from_slice.ensures.after c.trailer_words-t.ensures (c.fill-then-start_fits.ensures.after (λ y e. e))
 
 pub returns-else-start_fits : goal.returns-else-start_fits
 returns-else-start_fits c = start_refused c.args.words.now c.args.keys.now c.args.form c.args.c c.start_fits.ensures c.if-start_fits.false

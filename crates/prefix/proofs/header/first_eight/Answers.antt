@@ -1,15 +1,7 @@
-use mathlib.Core.Path.{refl}
-use native.Mathlib.Omega.{arith}
-use Rattle.lists.proofs.Built.{built_start, built_on, built_end}
-use Rattle.prefix.specs.Run.{eight}
-use Rattle.prefix.proofs.Eights.{eight_length, eight_at}
+-- `prefix::header::first_eight` meets its contract: the closure gives the run's byte at each place.
+use borrow.Author.Rules.{rules}
+use Rattle.prefix.proofs.Eights.{eight_made}
 use Rattle.prefix.proofs.header.first_eight.Goals as goal
 
-pub loop-i-init : goal.loop-i-init
-loop-i-init c = built_start refl
-
-pub loop-i-preserved : goal.loop-i-preserved
-loop-i-preserved c = built_on c.loop-i.invariant _ c.byte_at.ensures (omega arith)
-
 pub returns : goal.returns
-returns c = let l = c.args.run.now in built_end c.loop-i.invariant (omega arith) (eight l) (eight_length l) (eight_at l)
+returns c = eight_made _ _ c.args.run.now (λ i y q k. search rules) c.from_fn.result c.from_fn.ensures.items

@@ -1,16 +1,13 @@
 -- `prefix::header::joined_at` meets its contract: the element of the first run, of the second, or 0 past both.
-use mathlib.Core.Path.{sym, ◌∙◌}
+use mathlib.Core.Path.{sym}
 use native.Mathlib.Omega.{arith}
-use lib.ListN.{get_or-append, get_or-eq_default}
+use lib.ListN.{get_or-append}
+use Rattle.std.proofs.lemmas.Grind.{common_steps}
 use Rattle.prefix.proofs.Eights.{append_at}
 use Rattle.prefix.proofs.header.joined_at.Goals as goal
 
 pub returns-then-i-s : goal.returns-then-i-s
-returns-then-i-s c = let s = c.args in sym (get_or-append s.s.now s.t.now 0 s.i (omega arith))
+returns-then-i-s c = let a = c.args in sym (get_or-append a.s.now a.t.now 0 a.i (omega arith))
 
-pub returns-then-j-t : goal.returns-then-j-t
-returns-then-j-t c = let s = c.args in sym (append_at s.s.now s.t.now s.i (omega arith))
-
-pub returns-else-j-t : goal.returns-else-j-t
-returns-else-j-t c = let s = c.args in
-    sym (append_at s.s.now s.t.now s.i (omega arith) ∙ get_or-eq_default s.t.now 0 (omega arith))
+pub returns-else-i-s : goal.returns-else-i-s
+returns-else-i-s c = let a = c.args in grind (arith, common_steps, append_at a.s.now a.t.now a.i)

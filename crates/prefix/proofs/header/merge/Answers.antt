@@ -13,7 +13,7 @@ push_prefix-requires c = let e = c.push_prefix-front.ensures in
 pub returns : goal.returns
 returns c = let s = c.args in
     merge_by s.parent s.byte s.child (omega arith)
-    c.push_prefix-front.ensures
+    (rw c.from.ensures at c.push_prefix-front.ensures)
     c.push_prefix.ensures
     c.stored_len-s.ensures
     (omega arith)

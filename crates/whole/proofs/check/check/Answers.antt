@@ -23,7 +23,7 @@ returns-then-sound c =
       room = omega arith;
       sound = c.whole_anew-sound.ensures.0;
       long = c.whole_anew-sound.ensures.1;
-      zeros = c.clear_bytes.ensures;
+      zeros = c.fill.ensures.after (λ y e. e);
     } true c.if-sound.true
 
 pub returns : goal.returns
@@ -35,5 +35,5 @@ returns c =
       room = omega arith;
       sound = c.whole_anew-sound.ensures.0;
       long = c.whole_anew-sound.ensures.1;
-      zeros = c.clear_bytes.ensures;
+      zeros = c.fill.ensures.after (λ y e. e);
     } false c.if-sound.false

@@ -16,5 +16,5 @@ returns c = let f = c.args.f in
     let words = c.args.words.now in
     let x = leaf_place c.args.n in
     let start = c.leaf_start-start.ensures.0 in
-    part_put f words x start (ap (λ a. a + leaf_size) start) c.clear.new.s
-    ∙ ap (put_at f words x) (c.clear.ensures ∙ ap (λ l. replicate (length l) 0) (part_record f words x start (ap (λ a. a + leaf_size) start)) ∙ ap (λ n. replicate n 0) (record_length c.requires.0 x c.requires.1))
+    part_put f words x start (ap (λ a. a + leaf_size) start) c.fill.new.self
+    ∙ ap (put_at f words x) (c.fill.ensures.after (λ y e. e) ∙ ap (λ l. replicate (length l) 0) (part_record f words x start (ap (λ a. a + leaf_size) start)) ∙ ap (λ n. replicate n 0) (record_length c.requires.0 x c.requires.1))

@@ -9,4 +9,4 @@ use Rattle.writes.proofs.leaf_node.key_out.Goals as goal
 pub returns : goal.returns
 unfolding key_out splice
 returns c = let start = c.key_start-start.ensures.0 in
-    key_put c.requires.0 c.args.n c.requires.1 start c.clear_bytes.new.s (replicate c.args.f.form.limit 0) (c.clear_bytes.ensures ∙ ap (λ n. replicate n 0) (key_long c.requires.0 c.args.n c.requires.1 start))
+    key_put c.requires.0 c.args.n c.requires.1 start c.fill.new.self (replicate c.args.f.form.limit 0) (c.fill.ensures.after (λ y e. e) ∙ ap (λ n. replicate n 0) (key_long c.requires.0 c.args.n c.requires.1 start))

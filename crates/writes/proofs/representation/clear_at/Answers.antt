@@ -11,5 +11,5 @@ use Rattle.writes.proofs.representation.clear_at.Goals as goal
 pub returns : goal.returns
 unfolding clear_at splice
 returns c = let part = c.part_at-part.ensures in
-    part_made c.args.f c.args.words.now c.args.reference part.0 part.1.0 (λ k l. replicate (length l) 0) c.clear.new.s c.clear.ensures
+    part_made c.args.f c.args.words.now c.args.reference part.0 part.1.0 (λ k l. replicate (length l) 0) c.fill.new.self (c.fill.ensures.after (λ y e. e))
     ∙ ap (λ n. put_at c.args.f c.args.words.now (place_at c.args.reference) (replicate n 0)) (record_length c.requires.0 (place_at c.args.reference) c.requires.1.pool)

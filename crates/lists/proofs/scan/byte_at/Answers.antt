@@ -1,8 +1,0 @@
--- `scan::byte_at` meets its contract: past the end a list is read as 0.
-use mathlib.Core.Path.{sym}
-use native.Mathlib.Omega.{arith}
-use lib.ListN.{get_or-eq_default}
-use Rattle.lists.proofs.scan.byte_at.Goals as goal
-
-pub returns-else-i-s : goal.returns-else-i-s
-returns-else-i-s c = sym (get_or-eq_default c.args.s.now 0 (omega arith))
