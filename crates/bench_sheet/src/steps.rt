@@ -1,101 +1,112 @@
 // The steps that the program runs.
-ghost use Rattle.std.specs.Prelude.{◌≤◌, ◌<◌};
+use std::fmt;
 
-// What a step does. The first three are about a tag.
-pub const INSERT: u32 = 0;
-
-pub const DELETE: u32 = 1;
-
-pub const SEARCH: u32 = 2;
-
-pub const CHECK: u32 = 3;
-
-pub const ALL_IN: u32 = 4; // all 256 one-byte tags in, and a listing
-
-pub const ALL_OUT: u32 = 5; // and out again
-
-pub const START: u32 = 6;
-
-// The tags: as many As, and 63 As and a B, which parts from the longest run at its last byte; then one that is held already, one that a held tag begins, and two
-// for the edges of a total.
-const A64: u32 = 0;
-
-const A65: u32 = 1; // one byte too long
-
-const A63: u32 = 2; // would begin a held tag
-
-pub const PARTING: u32 = 3;
-
-const B: u32 = 4;
-
-const BB: u32 = 5;
-
-const L14A: u32 = 6;
-
-const L14B: u32 = 7;
-
-const MOST: u64 = 18446744073709551615;
-
-// What it does, the tag, and the total.
+// The tags: as many As, and 63 As and a B; then some that are written as they are named.
 #[derive(Clone, Copy)]
-pub struct Step(pub u32, pub u32, pub u64);
+pub enum Tag {
+    A64,
+    A65, // one byte too long
+    A63, // would begin a held tag
+    Parting, // parts from the longest run at its last byte
+    B, // held already
+    BB, // a held tag begins it
+    L14A, // for the edges of a total
+    L14B,
+}
 
-pub const COUNT: usize = 27;
+// The As that the first three tags are cut from.
+static RUN: [u8; 65] = [b'A'; 65];
 
-const STEPS: [Step; 27] = [
+// 63 As and a B.
+static PARTING: [u8; 64] = *b"AAAAAAAAAAAAAAAAAAAAAAAAAAAAAAAAAAAAAAAAAAAAAAAAAAAAAAAAAAAAAAAB";
+
+impl Tag {
+    pub fn bytes(self) -> &'static [u8] {
+        match self {
+            Tag::A64 => &RUN[..64],
+            Tag::A65 => &RUN,
+            Tag::A63 => &RUN[..63],
+            Tag::Parting => &PARTING,
+            Tag::B => b"B",
+            Tag::BB => b"BB",
+            Tag::L14A => b"L14A",
+            Tag::L14B => b"L14B",
+        }
+    }
+}
+
+// The name that a tag has in the lines.
+impl fmt::Display for Tag {
+    fn fmt<W: fmt::Write>(&self, f: &mut fmt::Formatter<W>) -> fmt::Result {
+        f.write_str(match self {
+            Tag::A64 => "64 bytes",
+            Tag::A65 => "65 bytes",
+            Tag::A63 => "63 bytes",
+            Tag::Parting => "64 bytes, the last another",
+            Tag::B => "B once more",
+            Tag::BB => "BB",
+            Tag::L14A => "L14A",
+            Tag::L14B => "L14B",
+        })
+    }
+}
+
+// Whether the tags of one byte go in or out.
+#[derive(Clone, Copy)]
+pub enum Way {
+    In,
+    Out,
+}
+
+impl fmt::Display for Way {
+    fn fmt<W: fmt::Write>(&self, f: &mut fmt::Formatter<W>) -> fmt::Result {
+        f.write_str(match self {
+            Way::In => "in",
+            Way::Out => "out",
+        })
+    }
+}
+
+// What a step does: an insert has the total too, and All is about each tag of one byte.
+#[derive(Clone, Copy)]
+pub enum Step {
+    Start,
+    Check,
+    Insert(Tag, u64),
+    Delete(Tag),
+    Search(Tag),
+    All(Way),
+}
+
+pub const STEPS: [Step; 27] = [
     // the longest tag, and one byte too many
-    Step(START, 0, 0),
-    Step(INSERT, A64, 1),
-    Step(INSERT, A65, 2),
-    Step(INSERT, A63, 3),
-    Step(INSERT, PARTING, 4),
-    Step(SEARCH, A64, 0),
-    Step(SEARCH, A65, 0),
-    Step(CHECK, 0, 0),
-    Step(DELETE, A65, 0),
-    Step(DELETE, A64, 0),
-    Step(SEARCH, PARTING, 0),
-    Step(CHECK, 0, 0),
+    Step::Start,
+    Step::Insert(Tag::A64, 1),
+    Step::Insert(Tag::A65, 2),
+    Step::Insert(Tag::A63, 3),
+    Step::Insert(Tag::Parting, 4),
+    Step::Search(Tag::A64),
+    Step::Search(Tag::A65),
+    Step::Check,
+    Step::Delete(Tag::A65),
+    Step::Delete(Tag::A64),
+    Step::Search(Tag::Parting),
+    Step::Check,
     // the tags of one byte
-    Step(START, 0, 0),
-    Step(ALL_IN, 0, 0),
-    Step(INSERT, B, 7),
-    Step(INSERT, BB, 8),
-    Step(ALL_OUT, 0, 0),
+    Step::Start,
+    Step::All(Way::In),
+    Step::Insert(Tag::B, 7),
+    Step::Insert(Tag::BB, 8),
+    Step::All(Way::Out),
     // the totals 0 and 2^64 - 1
-    Step(START, 0, 0),
-    Step(INSERT, L14A, 0),
-    Step(SEARCH, L14A, 0),
-    Step(INSERT, L14A, MOST),
-    Step(SEARCH, L14A, 0),
-    Step(INSERT, L14A, 0),
-    Step(INSERT, L14B, MOST),
-    Step(DELETE, L14A, 0),
-    Step(DELETE, L14B, 0),
-    Step(CHECK, 0, 0),
+    Step::Start,
+    Step::Insert(Tag::L14A, 0),
+    Step::Search(Tag::L14A),
+    Step::Insert(Tag::L14A, u64::MAX),
+    Step::Search(Tag::L14A),
+    Step::Insert(Tag::L14A, 0),
+    Step::Insert(Tag::L14B, u64::MAX),
+    Step::Delete(Tag::L14A),
+    Step::Delete(Tag::L14B),
+    Step::Check,
 ];
-
-pub fn step_at(i: usize) -> Step
-    requires { i < 27 }
-{
-    STEPS[i]
-}
-
-// How many bytes a run has.
-pub fn run_length(tag: u32) -> usize
-    ensures { result ≤ 65 }
-{
-    match tag {
-        A65 => 65,
-        A63 => 63,
-        _ => 64,
-    }
-}
-
-// The 64th byte of a run.
-pub fn last_byte(tag: u32) -> u8 {
-    if tag == PARTING {
-        return b'B';
-    }
-    b'A'
-}
