@@ -84,14 +84,13 @@ fn line_of(file: &[u8], beginning: &[u8]) -> Line
 }
 
 fn print<W: Write>(out: &mut W, line: Line) -> io::Result<()> {
-    text::numbers(
-        out,
-        b"# # # ",
-        line.number as u64,
-        line.count as u64,
-        line.low,
-    )?;
-    text::numbers(out, b"#\n", line.carries as u64, 0, 0)
+    let Line {
+        number,
+        count,
+        low,
+        carries,
+    } = line;
+    writeln!(out, "{number} {count} {low} {carries}")
 }
 
 // The name that the first argument is; empty, which names no file, where there is none, or it is longer than its buffer or no text.

@@ -2,7 +2,8 @@
 // A word outside the block reads as 0, so nothing need be known of the words.
 ghost use Rattle.std.specs.Prelude.{◌≤◌, ◌<◌, ◌^◌};
 
-use super::{line, say};
+use super::memory::Directory;
+use super::say::Hex;
 use frames::{form, frame, kind};
 use records::header;
 use std::io;
@@ -11,232 +12,179 @@ use std::io::Write;
 // Where the stored bytes of a prefix begin.
 const STORED: usize = 3;
 
-// Word i from a place on.
-fn word(words: &[u32], at: usize, i: usize) -> u32 {
-    if words.len() < at {
-        return 0;
-    }
-    if words.len() - at <= i {
-        return 0;
-    }
-    words[at + i]
+// What a drawing tells of a branching: its prefix, with that its kind and its number of children, or with these the slots too.
+#[derive(Clone, Copy)]
+pub enum Told {
+    Prefixes,
+    Kinds,
+    Slots,
 }
 
-// Word i of the trailer.
-pub fn trailer(words: &[u32], i: usize) -> u32 {
-    if words.len() < 16 {
-        return 0;
-    }
-    word(words, words.len() - 16, i)
-}
-
-// The first word of the record that a reference names; the end of the words where no pool has it.
-fn record(words: &[u32], keys: &[u8], reference: u32) -> usize {
-    if !frame::frame_fits(words, keys) {
-        return words.len();
-    }
-    let f = frame::frame_at(words, keys);
-    if !frame::in_pool(f, reference) {
-        return words.len();
-    }
-    frame::start_at(f, reference)
-}
-
-// 1 for a record in use, else 0. Where it is free, its word 0 is 0; an inner record has its kind there, and a leaf 1.
-fn is_used(words: &[u32], keys: &[u8], reference: u32) -> u64
-    ensures { result ≤ 1 }
-{
-    if word(words, record(words, keys, reference), header::KIND) == 0 {
-        return 0;
-    }
-    1
-}
-
-// How many records of a kind are in use.
-fn in_use(words: &[u32], keys: &[u8], kind: u32) -> u64
-    requires { kind ≤ 5 }
-    ensures { result ≤ 4096 }
-{
-    let room = trailer(words, kind as usize + 5) % 4097;
-    let mut n: u64 = 0;
-    let mut i: u32 = 0;
-    while i < room {
-        n = n + is_used(words, keys, frame::reference_to(kind, i as usize));
-        i += 1;
-    }
-    n
-}
-
-// The check's answer for a sound block: how many leaves and how many inner records are in use.
-pub fn used<W: Write>(out: &mut W, words: &[u32], keys: &[u8]) -> io::Result<()> {
-    let leaves = in_use(words, keys, frame::LEAF);
-    let small = in_use(words, keys, 1) + in_use(words, keys, 2);
-    let large = in_use(words, keys, 3) + in_use(words, keys, 4);
-    text::numbers(out, b"0 leaves # inner #", leaves, small + large, 0)
-}
-
-// The stored bytes of a prefix of this length, - for none.
-fn stored<W: Write>(out: &mut W, words: &[u32], at: usize, length: u32) -> io::Result<()> {
-    if length == 0 {
-        text::say(out, b"-")?;
-    }
-    let mut i: u32 = 0;
-    while i < 8 {
-        if length <= i {
-            return Ok(());
-        }
-        say::byte(out, (word(words, at, STORED + i as usize) % 256) as u8)?;
-        i += 1;
-    }
-    Ok(())
-}
-
-// A branching up to its first child; its kind and its number of children where these are told.
-fn head<W: Write>(out: &mut W, words: &[u32], at: usize, told: u32) -> io::Result<()> {
-    let length = word(words, at, header::FULL);
-    if (told == line::KINDS) | (told == line::SLOTS) {
-        let kind = word(words, at, header::KIND) as u64;
-        let n = word(words, at, header::CHILDREN) as u64;
-        text::numbers(out, b"[k# n# # ", kind, n, length as u64)?;
-    } else {
-        text::numbers(out, b"[# ", length as u64, 0, 0)?;
-    }
-    stored(out, words, at, length)
+// A record: its kind, and the words from its first on.
+#[derive(Clone, Copy)]
+struct Record<'a> {
+    kind: u32,
+    words: &'a [u32],
 }
 
 // Where the body of an inner record begins.
 fn body() -> usize
     ensures { result < 2 ^ 34 }
 {
-    form::header_of(form::form_of(1))
+    form::header_of(form::FORMS[0])
 }
 
-// How many children a record of a kind may have.
-fn children(kind: u32) -> u32 {
-    if kind == 0 {
-        return 0;
+// The words from the record on that a reference names; none where no pool has it.
+fn words_from(directory: &Directory, reference: u32) -> &[u32] {
+    let words = directory.words.as_slice();
+    let keys = directory.keys.as_slice();
+    if !frame::frame_fits(words, keys) {
+        return &[];
     }
-    if 4 < kind {
-        return 0;
+    let f = frame::frame_at(words, keys);
+    if !frame::in_pool(f, reference) {
+        return &[];
     }
-    kind::row_of(kind).children
+    words.get(frame::start_at(f, reference)..).unwrap_or(&[])
 }
 
-// How many places for children a record has: kinds 1 and 2 one for each child, the others one for each byte.
-fn places(kind: u32) -> u32 {
-    if kind <= 2 {
-        return children(kind);
+impl<'a> Record<'a> {
+    fn at(directory: &'a Directory, reference: u32) -> Record<'a> {
+        Record {
+            kind: reference % 8,
+            words: words_from(directory, reference),
+        }
     }
-    kind::BYTES as u32
+
+    // Word i, 0 past the end.
+    fn word(&self, i: usize) -> u32 {
+        self.words.get(i).copied().unwrap_or(0)
+    }
+
+    // Whether the record is in use. Where it is free, its word 0 is 0; an inner record has its kind there, and a leaf 1.
+    fn is_used(&self) -> bool {
+        self.word(header::KIND) != 0
+    }
+
+    // The stored bytes of a prefix, 0 past its end.
+    fn stored(&self) -> [u8; 8] {
+        let mut stored = [0; 8];
+        for (i, byte) in stored.iter_mut().enumerate() {
+            *byte = (self.word(STORED + i) % 256) as u8;
+        }
+        stored
+    }
+
+    // How many places for children the record has: kinds 1 and 2 one for each child, the others one for each byte.
+    fn places(&self) -> u32 {
+        match self.kind {
+            0 => 0,
+            1 | 2 => kind::row_of(self.kind).children,
+            _ => kind::BYTES as u32,
+        }
+    }
+
+    // What the body has at place i: the byte of kinds 1 and 2, the slot of kind 3, which are numbered from 1, and the reference of kind 4.
+    fn at_place(&self, i: u32) -> u32 {
+        self.word(body() + i as usize)
+    }
+
+    // The reference in a slot of kind 3, after a number for each byte.
+    fn in_slot(&self, slot: u32) -> u32 {
+        match slot {
+            0 => 0,
+            _ => self.word(body() + kind::SLOT_ZERO + slot as usize),
+        }
+    }
+
+    // The reference to the child at place i, 0 for none.
+    fn child(&self, i: u32) -> u32 {
+        match self.kind {
+            1 | 2 => self.word(body() + self.places() as usize + i as usize),
+            3 => self.in_slot(self.at_place(i)),
+            _ => self.at_place(i),
+        }
+    }
 }
 
-// The reference in a slot of kind 3, which are numbered from 1 and stand after a number for each byte.
-fn in_slot(words: &[u32], at: usize, slot: u32) -> u32 {
-    if slot == 0 {
-        return 0;
-    }
-    word(words, at, body() + kind::SLOT_ZERO + slot as usize)
+// How many records of a kind are in use.
+fn in_use(directory: &Directory, kind: u32) -> usize
+    requires { kind ≤ 5 }
+    ensures { result ≤ 4096 }
+{
+    let room = frame::trailer_word(&directory.words, kind as usize + 5) as usize % 4097;
+    (0..room)
+        .filter(|&i| Record::at(directory, frame::reference_to(kind, i)).is_used())
+        .count()
 }
 
-// The reference to the child at place i of a record, 0 for none.
-fn child(words: &[u32], at: usize, kind: u32, i: u32) -> u32 {
-    let place = body() + i as usize;
-    if kind <= 2 {
-        return word(words, at, place + children(kind) as usize);
-    }
-    let found = word(words, at, place);
-    if kind == 3 {
-        return in_slot(words, at, found);
-    }
-    found
+// The check's answer for a sound block: how many leaves and how many inner records are in use.
+pub fn used<W: Write>(out: &mut W, directory: &Directory) -> io::Result<()> {
+    let leaves = in_use(directory, frame::LEAF);
+    let small = in_use(directory, 1) + in_use(directory, 2);
+    let large = in_use(directory, 3) + in_use(directory, 4);
+    write!(out, "0 leaves {leaves} inner {}", small + large)
 }
 
-// A slot as the crate numbers them, from 0.
-fn say_slot<W: Write>(out: &mut W, slot: u32) -> io::Result<()> {
-    if 0 < slot {
-        text::labelled(out, b"@", slot as u64 - 1)?;
-    }
-    Ok(())
+// A drawing: of what, and what it tells.
+#[derive(Clone, Copy)]
+struct Drawing<'a> {
+    directory: &'a Directory,
+    told: Told,
 }
 
-// The byte of the child at place i, and its slot where that is told.
-fn say_byte<W: Write>(
-    out: &mut W,
-    words: &[u32],
-    at: usize,
-    kind: u32,
-    i: u32,
-    told: u32,
-) -> io::Result<()> {
-    let key = word(words, at, body() + i as usize);
-    text::say(out, b" ")?;
-    if kind <= 2 {
-        return say::byte(out, (key % 256) as u8);
+impl Drawing<'_> {
+    // A branching up to its first child.
+    fn say_head<W: Write>(&self, out: &mut W, record: Record<'_>) -> io::Result<()> {
+        let length = record.word(header::FULL);
+        match self.told {
+            Told::Prefixes => write!(out, "[{length} ")?,
+            Told::Kinds | Told::Slots => {
+                let kind = record.word(header::KIND);
+                let children = record.word(header::CHILDREN);
+                write!(out, "[k{kind} n{children} {length} ")?
+            }
+        }
+        let stored = record.stored();
+        write!(out, "{}", Hex(&stored[..length.min(8) as usize]))
     }
-    say::byte(out, (i % 256) as u8)?;
-    if (told == line::SLOTS) & (kind == 3) {
-        say_slot(out, key)?;
-    }
-    Ok(())
-}
 
-// The child at place i of a record, after its byte is said; 0 for none.
-fn branch<W: Write>(
-    out: &mut W,
-    words: &[u32],
-    at: usize,
-    kind: u32,
-    i: u32,
-    told: u32,
-) -> io::Result<u32> {
-    let below = child(words, at, kind, i);
-    if below != 0 {
-        say_byte(out, words, at, kind, i, told)?;
-        text::say(out, b":")?;
+    // The byte of the child at place i, and its slot where that is told, from 0 as the crate numbers them.
+    fn say_byte<W: Write>(&self, out: &mut W, record: Record<'_>, i: u32) -> io::Result<()> {
+        let found = record.at_place(i);
+        match (record.kind, self.told) {
+            (1 | 2, _) => write!(out, " {:02x}:", found % 256),
+            (3, Told::Slots) if 0 < found => write!(out, " {i:02x}@{}:", found - 1),
+            _ => write!(out, " {i:02x}:"),
+        }
     }
-    Ok(below)
-}
 
-fn tail<W: Write>(out: &mut W) -> io::Result<()> {
-    text::say(out, b"]")
-}
-
-// The tree below a reference, down to so many records; 0 draws nothing.
-fn draw<W: Write>(
-    out: &mut W,
-    words: &[u32],
-    keys: &[u8],
-    told: u32,
-    left: u32,
-    reference: u32,
-) -> io::Result<()> {
-    if left == 0 {
-        return Ok(());
+    // The tree below a reference, down to so many records; 0 draws nothing.
+    fn draw<W: Write>(&self, out: &mut W, left: u32, reference: u32) -> io::Result<()> {
+        if left == 0 {
+            return Ok(());
+        }
+        if reference % 8 == frame::LEAF {
+            return write!(out, "{}", self.directory.leaf(reference / 8));
+        }
+        let record = Record::at(self.directory, reference);
+        self.say_head(out, record)?;
+        for i in 0..record.places() {
+            let child = record.child(i);
+            if child != 0 {
+                self.say_byte(out, record, i)?;
+                self.draw(out, left - 1, child)?;
+            }
+        }
+        write!(out, "]")
     }
-    if reference == 0 {
-        return Ok(());
-    }
-    let kind = reference % 8;
-    if kind == frame::LEAF {
-        return say::leaf(out, words, keys, reference / 8);
-    }
-    let at = record(words, keys, reference);
-    let n = places(kind);
-    head(out, words, at, told)?;
-    let mut i: u32 = 0;
-    while i < n {
-        let below = branch(out, words, at, kind, i, told)?;
-        draw(out, words, keys, told, left - 1, below)?;
-        i += 1;
-    }
-    tail(out)
 }
 
 // The whole tree, told as this command asks: at most 64 branchings on a path, and a leaf.
-pub fn tree<W: Write>(out: &mut W, words: &[u32], keys: &[u8], told: u32) -> io::Result<()> {
-    let root = trailer(words, frame::ROOT);
+pub fn tree<W: Write>(out: &mut W, directory: &Directory, told: Told) -> io::Result<()> {
+    let root = frame::trailer_word(&directory.words, frame::ROOT);
     if root == 0 {
-        return text::say(out, b"nothing");
+        return write!(out, "nothing");
     }
-    draw(out, words, keys, told, 65, root)
+    Drawing { directory, told }.draw(out, 65, root)
 }

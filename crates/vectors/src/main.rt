@@ -4,237 +4,105 @@
 
 mod draw; // the tree on one line
 mod line; // a line taken apart
+mod memory; // the directory and the calls on it
 mod say; // answers
 
-use frames::frame;
+use draw::Told;
 use line::Command;
+use memory::Directory;
 use std::io;
 use std::io::Write;
-
-// Room for 256 tags, whatever they are: capacities 256, 64, 16, 5 and 256, so 19 × 256 + 43 × 64 + 315 × 16 + 267 × 5 + 6 × 256 + 16 words, 64 key bytes a leaf,
-// and a scratch byte a record.
-const TAGS: u32 = 256;
-
-const WORDS: usize = 15543;
-
-const KEYS: usize = 16384;
-
-const SCRATCH: usize = 597;
 
 // Room for the input.
 const INPUT: usize = 65536;
 
-// An empty directory.
-fn start(words: &mut [u32; WORDS], keys: &mut [u8; KEYS]) -> u32 {
-    directory_c::directory_start(words, keys, 256, 64, 16, 5, TAGS)
-}
-
-// Scratch is lent for one call, so each that wants it has its own.
 fn insert<W: Write>(
     out: &mut W,
-    words: &mut [u32; WORDS],
-    keys: &mut [u8; KEYS],
+    directory: &mut Directory,
     tag: &[u8],
     total: u64,
 ) -> io::Result<()> {
-    let mut scratch = [0u8; SCRATCH];
-    let before = draw::trailer(words, frame::TAGS);
-    let a = directory_c::directory_insert(words, keys, &mut scratch, tag, total);
-    say::inserted(out, a, before, draw::trailer(words, frame::TAGS))
-}
-
-fn delete<W: Write>(
-    out: &mut W,
-    words: &mut [u32; WORDS],
-    keys: &mut [u8; KEYS],
-    tag: &[u8],
-) -> io::Result<()> {
-    let mut scratch = [0u8; SCRATCH];
-    say::deleted(
-        out,
-        directory_c::directory_delete(words, keys, &mut scratch, tag),
-    )
-}
-
-fn at_or_after<W: Write>(out: &mut W, words: &[u32], keys: &[u8], tag: &[u8]) -> io::Result<()> {
-    let mut scratch = [0u8; SCRATCH];
-    let a = directory_c::directory_first_at_or_after(words, keys, &mut scratch, tag);
-    say::found(out, words, keys, a)
-}
-
-fn sound(words: &[u32], keys: &[u8]) -> u32 {
-    let mut scratch = [0u8; SCRATCH];
-    directory_c::directory_check(words, keys, &mut scratch)
+    let before = directory.tags();
+    let a = directory.insert(tag, total);
+    say::inserted(out, a, directory.tags() != before)
 }
 
 // The leaf after a held tag.
-fn next<W: Write>(out: &mut W, words: &[u32], keys: &[u8], tag: &[u8]) -> io::Result<()> {
-    let held = directory_c::directory_search(words, keys, tag);
+fn next<W: Write>(out: &mut W, directory: &Directory, tag: &[u8]) -> io::Result<()> {
+    let held = directory.search(tag);
     if held.number == 1 {
-        return text::say(out, b"9");
+        return write!(out, "9");
     }
-    say::found(
-        out,
-        words,
-        keys,
-        directory_c::directory_next_leaf(words, keys, held.leaf),
-    )
-}
-
-// A question about a tag.
-fn ask<W: Write>(out: &mut W, words: &[u32], keys: &[u8], tag: &[u8], name: u32) -> io::Result<()> {
-    match name {
-        line::AFTER => at_or_after(out, words, keys, tag),
-        line::PREFIX => say::found(
-            out,
-            words,
-            keys,
-            directory_c::directory_prefix_search(words, keys, tag),
-        ),
-        line::NEXT => next(out, words, keys, tag),
-        _ => say::found(
-            out,
-            words,
-            keys,
-            directory_c::directory_search(words, keys, tag),
-        ),
-    }
-}
-
-// How many leaves the list has from the minimum on, up to as many as there are.
-fn list_length(words: &[u32], keys: &[u8]) -> u32 {
-    let mut a = directory_c::directory_minimum(words, keys);
-    let mut n: u32 = 0;
-    while n < TAGS {
-        if a.number != 0 {
-            return n;
-        }
-        a = directory_c::directory_next_leaf(words, keys, a.leaf);
-        n += 1;
-    }
-    n
+    say::found(out, directory, directory.next_leaf(held.leaf))
 }
 
 // The leaves along the list, after their number.
-fn list<W: Write>(out: &mut W, words: &[u32], keys: &[u8]) -> io::Result<()> {
-    let mut left = list_length(words, keys);
-    text::number(out, left as u64)?;
-    let mut a = directory_c::directory_minimum(words, keys);
-    while 0 < left {
-        say::listed(out, words, keys, a.leaf)?;
-        a = directory_c::directory_next_leaf(words, keys, a.leaf);
-        left -= 1;
+fn list<W: Write>(out: &mut W, directory: &Directory) -> io::Result<()> {
+    write!(out, "{}", directory.leaves().count())?;
+    for leaf in directory.leaves() {
+        write!(out, " {}", directory.leaf(leaf))?;
     }
     Ok(())
 }
 
-// The ends, the list and the tag count.
-fn tell<W: Write>(out: &mut W, words: &[u32], keys: &[u8], name: u32) -> io::Result<()> {
-    match name {
-        line::MINIMUM => say::found(
-            out,
-            words,
-            keys,
-            directory_c::directory_minimum(words, keys),
-        ),
-        line::MAXIMUM => say::found(
-            out,
-            words,
-            keys,
-            directory_c::directory_maximum(words, keys),
-        ),
-        line::LIST => list(out, words, keys),
-        _ => text::number(out, draw::trailer(words, frame::TAGS) as u64),
-    }
-}
-
-// The calls that look at the whole block; one that is not sound is not drawn.
-fn look<W: Write>(out: &mut W, words: &[u32], keys: &[u8], name: u32) -> io::Result<()> {
-    let number = sound(words, keys);
+// The calls that look at the whole block: the check, or a drawing. One that is not sound is not drawn.
+fn look<W: Write>(out: &mut W, directory: &Directory, drawing: Option<Told>) -> io::Result<()> {
+    let number = directory.check();
     if number != 0 {
-        return text::number(out, number as u64);
+        return write!(out, "{number}");
     }
-    if name == line::CHECK {
-        return draw::used(out, words, keys);
+    match drawing {
+        Some(told) => draw::tree(out, directory, told),
+        None => draw::used(out, directory),
     }
-    draw::tree(out, words, keys, name)
-}
-
-// A command that changes nothing.
-fn read<W: Write>(
-    out: &mut W,
-    words: &[u32],
-    keys: &[u8],
-    tag: &[u8],
-    name: u32,
-) -> io::Result<()> {
-    if name <= line::NEXT {
-        return ask(out, words, keys, tag, name);
-    }
-    if name <= line::SLOTS {
-        return look(out, words, keys, name);
-    }
-    tell(out, words, keys, name)
 }
 
 fn answer<W: Write>(
     out: &mut W,
-    words: &mut [u32; WORDS],
-    keys: &mut [u8; KEYS],
-    tag: &[u8],
-    c: Command,
+    directory: &mut Directory,
+    command: Command<'_>,
 ) -> io::Result<()> {
-    let name = c.name;
-    match name {
-        line::RESET => text::number(out, start(words, keys) as u64),
-        line::INSERT => insert(out, words, keys, tag, c.total),
-        line::DELETE => delete(out, words, keys, tag),
-        _ => read(out, words, keys, tag, name),
+    match command {
+        Command::Reset => write!(out, "{}", directory.reset()),
+        Command::Insert(tag, total) => insert(out, directory, tag, total),
+        Command::Delete(tag) => say::deleted(out, directory.delete(tag)),
+        Command::AtOrAfter(tag) => say::found(out, directory, directory.at_or_after(tag)),
+        Command::Search(tag) => say::found(out, directory, directory.search(tag)),
+        Command::Prefix(tag) => say::found(out, directory, directory.prefix_search(tag)),
+        Command::Next(tag) => next(out, directory, tag),
+        Command::Check => look(out, directory, None),
+        Command::Draw(told) => look(out, directory, Some(told)),
+        Command::Minimum => say::found(out, directory, directory.minimum()),
+        Command::Maximum => say::found(out, directory, directory.maximum()),
+        Command::List => list(out, directory),
+        Command::Count => write!(out, "{}", directory.tags()),
     }
 }
 
-// One line answered.
-fn turn<W: Write>(
-    out: &mut W,
-    words: &mut [u32; WORDS],
-    keys: &mut [u8; KEYS],
-    asked: &[u8],
-) -> io::Result<()> {
-    let mut space = [0u8; 128];
-    let c = line::taken(out, &mut space, asked)?;
-    if c.name == line::NOTHING {
+// One line answered: a line with no word asks for nothing.
+fn turn<W: Write>(out: &mut W, directory: &mut Directory, line: &[u8]) -> io::Result<()> {
+    let asked = text::read::before(line, b'#');
+    if asked.iter().all(|&b| b == b' ') {
         return Ok(());
     }
-    let n = c.length;
-    answer(out, words, keys, &space[0..n], c)?;
-    text::say(out, b"\n")
+    let mut space = [0; 128];
+    let Some(command) = Command::parse(asked, &mut space) else {
+        return writeln!(out, "? no such command");
+    };
+    answer(out, directory, command)?;
+    writeln!(out)
 }
 
-// The lines of the input, which are no more than its bytes.
-fn run<W: Write>(
-    out: &mut W,
-    words: &mut [u32; WORDS],
-    keys: &mut [u8; KEYS],
-    input: &[u8],
-) -> io::Result<()> {
-    let mut i: u32 = 0;
-    while i < 65536 {
-        let asked = text::read::word(input, i, b'\n');
-        if asked.len() == 0 {
-            return Ok(());
-        }
-        turn(out, words, keys, asked)?;
-        i += 1;
+fn run<W: Write>(out: &mut W, directory: &mut Directory, input: &[u8]) -> io::Result<()> {
+    for line in input.split(|&b| b == b'\n') {
+        turn(out, directory, line)?;
     }
     Ok(())
 }
 
 // The input is read at once, up to 65,536 bytes; the sample has some 34,000.
 fn main(rt: HostRuntime) -> io::Result<()> {
-    let mut words = [0u32; WORDS];
-    let mut keys = [0u8; KEYS];
-    let mut input = [0u8; INPUT];
+    let mut input = [0; INPUT];
     let n = text::front(&mut rt.stdin(), &mut input);
-    start(&mut words, &mut keys);
-    run(&mut rt.stdout(), &mut words, &mut keys, &input[..n])
+    run(&mut rt.stdout(), &mut Directory::new(), &input[..n])
 }

@@ -1,82 +1,60 @@
 // Answers: numbers in decimal, tags in hexadecimal.
+use super::memory::Directory;
 use directory_c::{DirectoryChanged, DirectoryFound};
-use std::io;
 use std::io::Write;
-
-pub fn byte<W: Write>(out: &mut W, b: u8) -> io::Result<()> {
-    write!(out, "{b:02x}")
-}
+use std::{fmt, io};
 
 // Bytes in hexadecimal, - for none.
-pub fn bytes<W: Write>(out: &mut W, s: &[u8]) -> io::Result<()> {
-    if s.len() == 0 {
-        text::say(out, b"-")?;
+#[derive(Clone, Copy)]
+pub struct Hex<'a>(pub &'a [u8]);
+
+impl fmt::Display for Hex<'_> {
+    fn fmt<W: fmt::Write>(&self, f: &mut fmt::Formatter<W>) -> fmt::Result {
+        if self.0.is_empty() {
+            return write!(f, "-");
+        }
+        for byte in self.0 {
+            write!(f, "{byte:02x}")?;
+        }
+        Ok(())
     }
-    let mut i = 0;
-    while i < s.len() {
-        byte(out, s[i])?;
-        i += 1;
+}
+
+// A leaf, as lists and drawings have it.
+#[derive(Clone, Copy)]
+pub struct Leaf<'a> {
+    pub tag: &'a [u8],
+    pub total: u64,
+}
+
+impl fmt::Display for Leaf<'_> {
+    fn fmt<W: fmt::Write>(&self, f: &mut fmt::Formatter<W>) -> fmt::Result {
+        write!(f, "{}={}", Hex(self.tag), self.total)
     }
-    Ok(())
-}
-
-// The tag of a leaf.
-fn tag<W: Write>(out: &mut W, words: &[u32], keys: &[u8], leaf: u32) -> io::Result<()> {
-    let a = directory_c::directory_leaf_tag(words, keys, leaf);
-    bytes(out, text::part(keys, a.start, a.length))
-}
-
-// The tag and the total of a leaf, as lists and drawings have them.
-pub fn leaf<W: Write>(out: &mut W, words: &[u32], keys: &[u8], leaf: u32) -> io::Result<()> {
-    tag(out, words, keys, leaf)?;
-    let a = directory_c::directory_leaf_facts(words, keys, leaf);
-    text::labelled(out, b"=", a.total)
-}
-
-// A leaf of a list.
-pub fn listed<W: Write>(out: &mut W, words: &[u32], keys: &[u8], number: u32) -> io::Result<()> {
-    text::say(out, b" ")?;
-    leaf(out, words, keys, number)
 }
 
 // The number given back, and the leaf that was found.
-pub fn found<W: Write>(
-    out: &mut W,
-    words: &[u32],
-    keys: &[u8],
-    a: DirectoryFound,
-) -> io::Result<()> {
-    text::number(out, a.number as u64)?;
-    if a.number == 0 {
-        text::say(out, b" ")?;
-        tag(out, words, keys, a.leaf)?;
-        text::labelled(out, b" ", a.total)?;
+pub fn found<W: Write>(out: &mut W, directory: &Directory, a: DirectoryFound) -> io::Result<()> {
+    if a.number != 0 {
+        return write!(out, "{}", a.number);
     }
-    Ok(())
+    write!(out, "0 {} {}", Hex(directory.tag(a.leaf)), a.total)
 }
 
 // The number given back, and the total that the tag had.
 pub fn deleted<W: Write>(out: &mut W, a: DirectoryChanged) -> io::Result<()> {
-    text::number(out, a.number as u64)?;
-    if a.number == 0 {
-        text::labelled(out, b" ", a.total)?;
+    if a.number != 0 {
+        return write!(out, "{}", a.number);
     }
-    Ok(())
+    write!(out, "0 {}", a.total)
 }
 
-// The same, and whether the tag is new: then the count of tags has changed.
-pub fn inserted<W: Write>(
-    out: &mut W,
-    a: DirectoryChanged,
-    before: u32,
-    now: u32,
-) -> io::Result<()> {
+// The same, and whether the tag is new.
+pub fn inserted<W: Write>(out: &mut W, a: DirectoryChanged, is_new: bool) -> io::Result<()> {
     deleted(out, a)?;
-    if a.number != 0 {
-        return Ok(());
+    match (a.number, is_new) {
+        (0, true) => write!(out, " new"),
+        (0, false) => write!(out, " over"),
+        _ => Ok(()),
     }
-    if before == now {
-        return text::say(out, b" over");
-    }
-    text::say(out, b" new")
 }

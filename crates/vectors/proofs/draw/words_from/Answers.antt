@@ -1,7 +1,7 @@
--- `record` is safe: a place is asked for only where the frame was tested to fit and the pool to have the record.
+-- `words_from` is safe: a place is asked for only where the frame was tested to fit and the pool to have the record.
 use Rattle.frames.proofs.Frames.{framed}
 use mathlib.Core.Path.{◌∙◌, sym}
-use Rattle.vectors.proofs.draw.record.Goals as goal
+use Rattle.vectors.proofs.draw.words_from.Goals as goal
 
 pub in_pool-requires : goal.in_pool-requires
 in_pool-requires c = framed c.frame_at-f.ensures
