@@ -11,9 +11,8 @@ use borrow.Author.Tests.{leb-true, eqb-true, eq-eqb, ne_eqb}
 use Rattle.lists.specs.Scan.{choose, all_pass, at_most}
 use Rattle.lists.specs.Part.{between}
 use Rattle.lists.proofs.Parts.{between_length, between_at}
-use Rattle.lists.proofs.Tests.{all_at}
+use Rattle.lists.proofs.Tests.{all_at, both}
 use lib.Seq.{ext_get_or}
-use Rattle.lists.proofs.Tests.{both}
 use Rattle.frames.specs.Kind.{kind_row}
 use Rattle.frames.specs.Form.{forms, no_form, form_known, form_of, header, sizes_of, SmallSizes, eight_from, eight_in, word_of, packed, Stores, pack_of, unpack_of, stored_of}
 use Rattle.frames.specs.declared.form.Form.{Form}

@@ -6,11 +6,11 @@ use mathlib.Core.Bool.{Bool, true, false, ◌&&◌}
 use native.Mathlib.Omega.{arith}
 use native.Mathlib.Nat.{mul-le-mul_right, suc-mul}
 use lib.ListN.{length, get_or}
-use lib.Dec.{eqb, leb, ltb}
-use borrow.Author.Tests.{leb-true, eqb-true, le-ltb}
+use lib.Dec.{eqb, leb}
+use borrow.Author.Tests.{leb-true, eqb-true}
 use Rattle.lists.proofs.Tests.{both}
 use Rattle.frames.specs.Form.{form_known, form_of, record_words, sizes_of, SmallSizes}
-use Rattle.frames.specs.Frame.{trailer_of, frame_fits, frame_of, frame, caps_of, caps_small, SmallCaps, backs_of, backs_match, form_fits, trailer_fits, frame_with, Framed, FrameOf, caps_list, sizes_list, starts_list}
+use Rattle.frames.specs.Frame.{trailer_of, frame_fits, frame_of, caps_of, caps_small, SmallCaps, backs_of, backs_match, form_fits, trailer_fits, frame_with, Framed, FrameOf, caps_list, sizes_list, starts_list}
 use Rattle.frames.specs.declared.form.Form.{Form}
 use Rattle.frames.specs.declared.form.Sizes.{Sizes}
 use Rattle.frames.specs.declared.frame.Caps.{Caps}
@@ -171,37 +171,3 @@ module _ {f : Frame} {words keys : List ℕ} (w : FrameOf f words keys) where
   pub limit_small : f.form.limit ≤ 128
   unfolding frame_of
   limit_small = subst (λ (g : Frame). g.form.limit ≤ 128) (sym w.read) (form_rules (get_or (trailer_of words) 0 0) (totals words keys w.fits).known).limit
-
-  -- the capacity of a kind, as the trailer has it
-  abbrev CapAt : ℕ → Frame → ℕ → Type 0
-  CapAt n g k = leb 1 k && leb k 5 && ltb n (get_or (trailer_of words) (5 + k) 0) ≡ ltb n (get_or g.caps k 0)
-
-  pub cap_at : (n k : ℕ) → k < 8 → CapAt n f k
-  unfolding frame_of
-  cap_at n k l =
-      let none : false ≡ ltb n 0 = sym (le-ltb n 0 (omega arith)) in
-      subst (λ (g : Frame). CapAt n g k) (sym w.read)
-      (by_eight (CapAt n (frame words)) none refl refl refl refl refl none none k l)
-
-  -- the first word of a kind's pool, by the trailer's distance back
-  abbrev BackAt : Frame → ℕ → Type 0
-  BackAt g k = 1 ≤ k → k ≤ 5 → get_or (trailer_of words) k 0 + get_or g.starts k 0 + 16 ≡ length words
-
-  pub back_at : (k : ℕ) → k < 8 → BackAt f k
-  unfolding frame_of
-  back_at k l =
-      let z = totals words keys w.fits in
-      let t = trailer_of words in
-      let b = backs_of (sizes_of (form_at t)) (caps_of t) in
-      let e = both5 (eqb (get_or t 1 0) b.b1) (eqb (get_or t 2 0) b.b2) (eqb (get_or t 3 0) b.b3) (eqb (get_or t 4 0) b.b4) (eqb (get_or t 5 0) b.b5) z.backs in
-      subst (λ (g : Frame). BackAt g k) (sym w.read)
-      (by_eight (BackAt (frame_of t))
-      (λ h m. absurd (omega arith))
-      (λ h m. omega (arith, eqb-true (get_or t 1 0) b.b1 e.0, z.total))
-      (λ h m. omega (arith, eqb-true (get_or t 2 0) b.b2 e.1, z.total))
-      (λ h m. omega (arith, eqb-true (get_or t 3 0) b.b3 e.2, z.total))
-      (λ h m. omega (arith, eqb-true (get_or t 4 0) b.b4 e.3, z.total))
-      (λ h m. omega (arith, eqb-true (get_or t 5 0) b.b5 e.4, z.total))
-      (λ h m. absurd (omega arith))
-      (λ h m. absurd (omega arith))
-      k l)

@@ -41,10 +41,8 @@ module _ (n : ℕ) where
     pub past_on : row.children < n → Past (kind + 1)
     past_on h = record { left = turn false (lt-leb n row.children h) ∙ ap₂ (λ (k i : ℕ). kind_from n k (drop i kind_table)) (let q : suc kind ≡ kind + 1 = omega arith in q) (let q : kind ≡ kind + 1 - 1 = omega arith in q) }
 
-  pub past_end : {kind : ℕ} → Past kind → 4 < kind → kind ≤ 5 → kind ≡ kind_for n
-  past_end {kind} p l h =
-      let five : kind ≡ 5 = omega arith in
-      five ∙ sym (p.left ∙ ap (λ (k : ℕ). kind_from n k (drop (k - 1) kind_table)) five)
+  pub past_end : {kind : ℕ} → Past kind → 4 < kind → kind ≤ 5 → 5 ≡ kind_for n
+  past_end {kind} p l h = sym (p.left ∙ ap (λ (k : ℕ). kind_from n k (drop (k - 1) kind_table)) (let five : kind ≡ 5 = omega arith in five))
 
   -- ── what it finds ──
   from_least : (rows : List KindRow) (kind i : ℕ) → i < length rows → n ≤ (get_or rows i no_row).children → kind_from n kind rows ≤ kind + i

@@ -64,10 +64,6 @@ pub kind_4 : (kind : ℕ) → kind ≡ 4 → body_words kind ≡ byte_values
 unfolding kind_row
 kind_4 kind e = ap body_words e
 
--- the last arm of a match on the kind is that of kinds 1 and 2
-pub kind_rest : {kind : ℕ} → kind ≤ 4 → (kind ≡ 3 → ⊥) → (kind ≡ 4 → ⊥) → kind ≤ 2
-kind_rest h three four = omega arith
-
 pub kind_words : (kind : ℕ) → 1 ≤ kind → kind ≤ 4 → (8 ≤ body_words kind) × (body_words kind ≤ 304)
 unfolding kind_row
 kind_words = by_kind (λ k. (8 ≤ body_words k) × (body_words k ≤ 304)) (lit≤ tt, lit≤ tt) (lit≤ tt, lit≤ tt) (lit≤ tt, lit≤ tt) (lit≤ tt, lit≤ tt)

@@ -1,5 +1,5 @@
 -- The place that a reference names, by the reference's kind and number, and the room that a place of a pool has.
-use Prim.Native.Nat.{ℕ, ◌+◌, ◌-◌, ◌*◌, ◌/◌, ◌%◌, ◌≤◌, ◌<◌}
+use Prim.Native.Nat.{ℕ, ◌+◌, ◌*◌, ◌/◌, ◌%◌, ◌≤◌, ◌<◌}
 use mathlib.Core.Path.{◌≡◌, refl, sym, ap, ◌∙◌}
 use mathlib.Core.List.{List}
 use mathlib.Core.Bool.{Bool, true, false, ◌&&◌, and-false}
@@ -10,11 +10,11 @@ use borrow.Author.Tests.{le-leb, leb-true, ltb-true, eqb-true, eqb-false, eq-eqb
 use Rattle.lists.specs.Scan.{choose}
 use Rattle.lists.proofs.Tests.{both}
 use Rattle.lists.proofs.Parts.{between_length}
-use Rattle.frames.specs.Frame.{trailer_of, Framed, FrameOf}
+use Rattle.frames.specs.Frame.{Framed, FrameOf}
 use Rattle.frames.specs.Place.{place_at, ref_of, in_pool, start_at, size_at, record_at, key_at}
 use Rattle.frames.specs.declared.frame.Frame.{Frame}
 use Rattle.art.specs.Stores.{Place, leaf_place, inner_place}
-use Rattle.frames.proofs.Frames.{framed, framed_room, frame_room, key_room, frame_size, leaf_size, cap_at, back_at}
+use Rattle.frames.proofs.Frames.{framed_room, frame_room, key_room, frame_size, leaf_size}
 
 module _ (f : Frame) (ref : ℕ) where
   abbrev named : Bool → Place
@@ -77,25 +77,6 @@ module _ {f : Frame} {words keys : List ℕ} (w : FrameOf f words keys) where
       let r = leaf_room n e in
       let a = n * f.form.limit in
       between_length keys a (a + f.form.limit) (omega arith) (omega arith) ∙ omega arith
-
--- ── the same read from the trailer: the capacity c, and the distance back ──
-module _ {f : Frame} {words keys : List ℕ} (w : FrameOf f words keys) (ref : ℕ) where
-  pub pool_trailer : (c : ℕ) → c ≡ get_or (trailer_of words) (5 + ref % 8) 0 → leb 1 (ref % 8) && leb (ref % 8) 5 && ltb (ref / 8) c ≡ in_pool f (place_at ref)
-  pool_trailer c e =
-      ap (λ (m : ℕ). leb 1 (ref % 8) && leb (ref % 8) 5 && ltb (ref / 8) m) e
-      ∙ cap_at w (ref / 8) (ref % 8) (omega arith)
-      ∙ pool_by f ref (framed w)
-
-  module _ (back : ℕ) (e : back ≡ get_or (trailer_of words) (ref % 8) 0) (p : in_pool f (place_at ref) ≡ true) where
-    pub back_within : (back + 16 ≤ length words) × (length words - 16 - back ≡ get_or f.starts (ref % 8) 0)
-    back_within =
-        let h : ref / 8 < get_or f.caps (ref % 8) 0 = ltb-true _ _ (pool_by f ref (framed w) ∙ p) in
-        let r = framed_room (framed w) (ref / 8) (ref % 8) (omega arith) h in
-        let q = back_at w (ref % 8) (omega arith) r.0 r.1 in
-        (omega arith, omega arith)
-
-    pub start_trailer : length words - 16 - back + ref / 8 * get_or f.sizes (ref % 8) 0 ≡ start_at f (place_at ref)
-    start_trailer = ap (λ (a : ℕ). a + ref / 8 * get_or f.sizes (ref % 8) 0) back_within.1 ∙ start_by f ref
 
 -- ── references and places name each other ──
 pub ref_place : (ref : ℕ) → ref_of (place_at ref) ≡ ref

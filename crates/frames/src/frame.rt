@@ -226,46 +226,21 @@ pub fn reference_to(kind: u32, number: usize) -> u32
 }
 
 // Whether the reference names a record of a pool.
-pub fn in_pool(f: Frame, reference: u32) -> bool
-    requires { Framed f }
-    ensures { result ≡ in_pool f (place_at reference) }
+pub fn in_pool(f: &Frame, reference: u32) -> bool
+    requires { Framed f.now }
+    ensures { result ≡ in_pool f.now (place_at reference) }
 {
     let k = (reference % 8) as usize;
     let n = (reference / 8) as usize;
-    let caps = f.caps;
-    n < caps[k]
+    n < f.caps[k]
 }
 
 // The first word of the record that the reference names.
-pub fn start_at(f: Frame, reference: u32) -> usize
-    requires { Framed f × (in_pool f (place_at reference) ≡ true) }
-    ensures { result ≡ start_at f (place_at reference) }
+pub fn start_at(f: &Frame, reference: u32) -> usize
+    requires { Framed f.now × (in_pool f.now (place_at reference) ≡ true) }
+    ensures { result ≡ start_at f.now (place_at reference) }
 {
     let k = (reference % 8) as usize;
     let n = (reference / 8) as usize;
-    let starts = f.starts;
-    let sizes = f.sizes;
-    starts[k] + n * sizes[k]
-}
-
-// As `in_pool`, with the capacity read where it stands in the trailer: on a walk that is quicker than the copy of the frame's table.
-pub fn pool_has(words: &[u32], keys: &[u8], f: Frame, reference: u32) -> bool
-    requires { FrameOf f words.now keys.now }
-    ensures { result ≡ in_pool f (place_at reference) }
-{
-    let k = reference % 8;
-    let c = trailer_word(words, 5 + k as usize);
-    (1 <= k) & (k <= 5) & (reference / 8 < c)
-}
-
-// As `start_at`, by the distance back that stands in the trailer.
-pub fn pool_start(words: &[u32], keys: &[u8], f: Frame, reference: u32) -> usize
-    requires { FrameOf f words.now keys.now × (in_pool f (place_at reference) ≡ true) }
-    ensures { result ≡ start_at f (place_at reference) }
-{
-    let k = (reference % 8) as usize;
-    let n = (reference / 8) as usize;
-    let back = trailer_word(words, k) as usize;
-    let sizes = f.sizes;
-    words.len() - 16 - back + n * sizes[k]
+    f.starts[k] + n * f.sizes[k]
 }

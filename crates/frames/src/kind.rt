@@ -1,6 +1,6 @@
 // The kind table: one constant, read wherever a kind's sizes matter.
 ghost use Rattle.std.specs.Prelude.{◌≡◌, ◌≤◌};
-ghost use Rattle.frames.specs.Kind.{kind_row, kind_for};
+ghost use Rattle.frames.specs.Kind.{kind_row, children_of, kind_for};
 
 // How many children a record of the kind may have, its words in form 1, and the number of children at or below which it shrinks.
 #[derive(Clone, Copy)]
@@ -57,17 +57,23 @@ pub fn row_of(kind: u32) -> KindRow
     KINDS[k]
 }
 
+// The most children that a record of the kind holds.
+pub fn children_of(kind: u32) -> usize
+    requires { (1 ≤ kind) × (kind ≤ 4) }
+    ensures { result ≡ children_of kind }
+{
+    row_of(kind).children as usize
+}
+
 // The smallest kind that holds so many children; 5, which is no kind of inner record, where none does.
 pub fn kind_for(children: u32) -> u32
     ensures { result ≡ kind_for children }
 {
-    let mut kind: u32 = 1;
-    while kind <= 4 {
+    for kind in 1..=4 {
         let row = row_of(kind);
         if children <= row.children {
             return kind;
         }
-        kind += 1;
     }
-    kind
+    5
 }

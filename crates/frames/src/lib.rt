@@ -4,3 +4,4 @@
 pub mod kind; // the kind table
 pub mod form; // the forms, and the sizes of records
 pub mod frame; // the trailer, the frame, places
+pub mod block; // a block that is lent for reading, with its frame

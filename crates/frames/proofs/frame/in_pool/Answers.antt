@@ -3,4 +3,4 @@ use Rattle.frames.proofs.Places.{pool_by}
 use Rattle.frames.proofs.frame.in_pool.Goals as goal
 
 pub returns : goal.returns
-returns c = pool_by c.args.f c.args.reference c.requires
+returns c = pool_by c.args.f.now c.args.reference c.requires

@@ -10,4 +10,4 @@ pub overflow_add-result : goal.overflow_add-result
 overflow_add-result c = omega (arith, start_small c.requires.0 c.args.reference c.requires.1)
 
 pub returns : goal.returns
-returns c = start_by c.args.f c.args.reference
+returns c = start_by c.args.f.now c.args.reference

@@ -3,13 +3,13 @@ use Rattle.frames.proofs.KindFor.{past_start, past_at, past_on, past_end}
 use Rattle.frames.proofs.kind.kind_for.Goals as goal
 
 pub loop-kind-init : goal.loop-kind-init
-loop-kind-init c = (past_start _, (omega arith, omega arith))
+loop-kind-init c = past_start _
 
 pub returns-then-children-row : goal.returns-then-children-row
-returns-then-children-row c = past_at _ c.loop-kind.invariant.0 c.loop-kind.invariant.1.0 c.loop-kind-test.true c.row_of-row.ensures (omega (arith, c.if-children-row.true))
+returns-then-children-row c = past_at _ c.loop-kind.invariant c.loop-kind.auto.kind c.loop-kind-test.true c.row_of-row.ensures (omega (arith, c.if-children-row.true))
 
 pub loop-kind-preserved : goal.loop-kind-preserved
-loop-kind-preserved c = (past_on _ c.loop-kind.invariant.0 c.loop-kind.invariant.1.0 c.loop-kind-test.true c.row_of-row.ensures c.if-children-row.false, (omega arith, omega (arith, c.loop-kind-test.true)))
+loop-kind-preserved c = past_on _ c.loop-kind.invariant c.loop-kind.auto.kind c.loop-kind-test.true c.row_of-row.ensures (omega (arith, c.if-children-row.false))
 
 pub returns : goal.returns
-returns c = past_end _ c.loop-kind.invariant.0 c.loop-kind-test.false c.loop-kind.invariant.1.1
+returns c = past_end _ c.loop-kind.invariant c.loop-kind-test.false (c.loop-kind.auto.kind-end (omega arith))

@@ -1,3 +1,0 @@
-// The demands on the directory: theorems alone, no code.
-
-#![tactic(auto)]

@@ -1,4 +1,0 @@
-pub mod Opened
-pub mod Blocks
-pub mod Lines
-pub mod Slots

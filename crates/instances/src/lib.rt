@@ -1,3 +1,0 @@
-// Instances of the theorems: theorems alone, no code.
-
-#![tactic(auto)]

@@ -1,4 +1,0 @@
-pub mod Scan
-pub mod Compare
-pub mod Part
-pub mod Edit

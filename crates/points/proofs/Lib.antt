@@ -1,4 +1,0 @@
-pub mod Here
-pub mod Below
-pub mod Steps
-pub mod There

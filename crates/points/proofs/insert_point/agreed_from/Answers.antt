@@ -1,9 +1,0 @@
--- `insert_point::agreed_from` meets its contract: past the end of the second tag nothing agrees.
-use Rattle.points.proofs.Steps.{agreed_none, agreed_by}
-use Rattle.points.proofs.insert_point.agreed_from.Goals as goal
-
-pub returns-then-t-depth : goal.returns-then-t-depth
-returns-then-t-depth c = search agreed_none
-
-pub returns : goal.returns
-returns c = search agreed_by

@@ -1,2 +1,0 @@
-pub mod Point
-pub mod There

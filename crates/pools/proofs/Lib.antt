@@ -1,4 +1,0 @@
-pub mod Lowest
-pub mod LeafEnds
-pub mod Starts
-pub mod Examples

@@ -1,4 +1,0 @@
-pub mod Pool
-pub mod Leaf
-pub mod Link
-pub mod Start

@@ -1,4 +1,0 @@
-pub mod Shown
-pub mod Answers
-pub mod Listing
-pub mod Calls

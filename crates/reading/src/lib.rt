@@ -1,3 +1,0 @@
-// The reading calls on sound blocks: theorems alone, no code.
-
-#![tactic(auto)]

@@ -1,4 +1,0 @@
-pub mod Slots
-pub mod Owns
-pub mod Rows
-pub mod RowRules

@@ -1,4 +1,0 @@
-pub mod Words
-pub mod Own
-pub mod Row
-pub mod View

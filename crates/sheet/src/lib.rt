@@ -1,3 +1,0 @@
-// The bench sheet, computed: mathematics, no code.
-
-#![tactic(auto)]

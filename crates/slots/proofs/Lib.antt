@@ -1,5 +1,0 @@
-pub mod Bodies
-pub mod Writes
-pub mod Inserts
-pub mod Deletes
-pub mod Calls

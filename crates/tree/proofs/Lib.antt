@@ -1,4 +1,0 @@
-pub mod Arrivals
-pub mod Leaves
-pub mod Walks
-pub mod Edges

@@ -1,3 +1,0 @@
-// What a block shows: laws alone, no code.
-
-#![tactic(auto)]

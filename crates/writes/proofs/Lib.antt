@@ -1,3 +1,0 @@
-pub mod Spots
-pub mod Branches
-pub mod Kept

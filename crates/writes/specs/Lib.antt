@@ -1,3 +1,0 @@
-pub mod At
-pub mod Leaf
-pub mod Above
