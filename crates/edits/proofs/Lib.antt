@@ -1,0 +1,13 @@
+pub mod Columns
+pub mod Fills
+pub mod Spreads
+pub mod Rooms
+pub mod Builds
+pub mod Bodies
+pub mod Cells
+pub mod Inners
+pub mod RowChanges
+pub mod Shown
+pub mod SlotBodies
+pub mod SortedBodies
+pub mod TableBodies

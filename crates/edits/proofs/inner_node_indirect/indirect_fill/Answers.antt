@@ -1,0 +1,19 @@
+use mathlib.Core.Path.{◌∙◌}
+use native.Mathlib.Omega.{arith}
+use Rattle.edits.proofs.Fills.{filling_start, filling_skip, filling_put, filling_end, slots_none, slots_puts}
+use Rattle.edits.proofs.inner_node_indirect.indirect_fill.Goals as goal
+use Rattle.edits.proofs.inner_node_indirect.indirect_fill.Goals.{then-reference-ne0, else-reference-ne0}
+
+pub loop-byte-init : goal.loop-byte-init
+loop-byte-init c = filling_start (c.requires.0 ∙ slots_none)
+
+pub loop-byte-preserved : goal.loop-byte-preserved
+loop-byte-preserved c = let f = c.loop-byte.invariant in
+    let few = c.requires.1 in
+    elim c.if-reference-ne0.branch [
+      | then-reference-ne0 w ↦ rw w.used-is (filling_put slots_puts f (omega arith) few (omega arith) w.if-reference-ne0.true _ w.body-is)
+      | else-reference-ne0 w ↦ rw (w.used-is, w.body-is) (filling_skip slots_puts f (omega arith) few (omega arith) w.if-reference-ne0.false)
+    ]
+
+pub returns : goal.returns
+returns c = filling_end c.loop-byte.invariant (omega arith)

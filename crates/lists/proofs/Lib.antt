@@ -1,0 +1,10 @@
+pub mod Scans
+pub mod Tests
+pub mod Compares
+pub mod Parts
+pub mod Edits
+pub mod Built
+pub mod Alike
+pub mod Tables
+pub mod Pieces
+pub mod Words

@@ -1,0 +1,4 @@
+pub mod Scan
+pub mod Compare
+pub mod Part
+pub mod Edit

@@ -1,0 +1,4 @@
+pub mod Lowest
+pub mod LeafEnds
+pub mod Starts
+pub mod Examples

@@ -1,0 +1,4 @@
+pub mod Pool
+pub mod Leaf
+pub mod Link
+pub mod Start

@@ -1,0 +1,4 @@
+pub mod Slots
+pub mod Owns
+pub mod Rows
+pub mod RowRules

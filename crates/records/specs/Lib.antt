@@ -1,0 +1,4 @@
+pub mod Words
+pub mod Own
+pub mod Row
+pub mod View
