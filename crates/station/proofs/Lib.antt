@@ -1,0 +1,6 @@
+pub mod Lines
+pub mod Rooms
+pub mod Files
+pub mod Cuts
+pub mod Sorted
+mod Samples

@@ -1,0 +1,23 @@
+-- `station_total` meets its contract: each answer of the check is a case of `total_check`, and nothing but the check writes to scratch.
+use Rattle.std.proofs.Common.{◌≡◌, sym, ap, ◌∙◌, rules}
+use Rattle.std.specs.Prelude.{Ok, Err}
+use Rattle.tally.specs.declared.Tally.{Tally}
+use Rattle.whole.proofs.Calls.{sound_fits}
+use Rattle.stations.specs.Stations.{total_check}
+use Rattle.stations.proofs.Steps.{pass_by, call_by}
+use Rattle.stations.proofs.station_total.Goals as goal
+
+pub returns : goal.returns
+returns c = let s = c.args in
+    let b = c.new-block in
+    call_by _ _ _ _ c.check.ensures
+    (ap (λ (t : Tally). Ok t) (pass_by s.beginning.now b.result.framed b.ensures c.tally_list.ensures) ∙ ap (total_check s.words.now s.keys.now s.beginning.now) (sym c.in_ok-check.was))
+
+pub returns-in_err-check : goal.returns-in_err-check
+returns-in_err-check c = let s = c.args in
+    let refused : c.from_residual.result ≡ Err c.in_err-check.field-0.0 = search (rules, c.from_residual.ensures) in
+    call_by _ _ _ _ c.check.ensures (refused ∙ ap (total_check s.words.now s.keys.now s.beginning.now) (sym c.in_err-check.was))
+
+-- a block that the check finds sound has a frame that fits
+pub new-block-requires : goal.new-block-requires
+new-block-requires c = sound_fits _ _ _ c.check.ensures c.in_ok-check.was

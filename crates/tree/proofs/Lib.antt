@@ -1,0 +1,4 @@
+pub mod Arrivals
+pub mod Leaves
+pub mod Walks
+pub mod Edges

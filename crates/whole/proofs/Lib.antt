@@ -1,0 +1,12 @@
+pub mod Arrivals
+pub mod Marking
+pub mod Witnesses
+pub mod Turns
+pub mod Turning
+pub mod Sweeping
+pub mod Calls
+pub mod Apart
+pub mod Agreeing
+pub mod Ways
+pub mod Sounds
+pub mod Samples
