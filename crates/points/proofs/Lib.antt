@@ -1,0 +1,4 @@
+pub mod Here
+pub mod Below
+pub mod Steps
+pub mod There

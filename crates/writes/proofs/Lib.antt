@@ -1,0 +1,3 @@
+pub mod Spots
+pub mod Branches
+pub mod Kept
