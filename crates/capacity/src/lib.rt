@@ -1,0 +1,3 @@
+// With which capacities no insert lacks an inner record: theorems alone, no code.
+
+#![tactic(auto)]

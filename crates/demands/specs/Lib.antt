@@ -1,0 +1,15 @@
+pub mod Calls
+pub mod Told
+pub mod Histories
+pub mod Ledger
+pub mod Programs
+pub mod Frames
+pub mod Scratch
+pub mod Drawn
+pub mod Listed
+pub mod Story
+pub mod Way
+pub mod Due
+pub mod Tests
+pub mod Demands
+pub mod Later

@@ -1,0 +1,3 @@
+// The demands on the directory: theorems alone, no code.
+
+#![tactic(auto)]

@@ -1,0 +1,4 @@
+pub mod Opened
+pub mod Blocks
+pub mod Lines
+pub mod Slots

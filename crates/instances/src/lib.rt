@@ -1,0 +1,3 @@
+// Instances of the theorems: theorems alone, no code.
+
+#![tactic(auto)]

@@ -1,0 +1,4 @@
+pub mod Shown
+pub mod Answers
+pub mod Listing
+pub mod Calls

@@ -1,0 +1,3 @@
+// The reading calls on sound blocks: theorems alone, no code.
+
+#![tactic(auto)]

@@ -1,0 +1,3 @@
+// The bench sheet, computed: mathematics, no code.
+
+#![tactic(auto)]

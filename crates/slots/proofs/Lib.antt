@@ -1,0 +1,5 @@
+pub mod Bodies
+pub mod Writes
+pub mod Inserts
+pub mod Deletes
+pub mod Calls

@@ -1,0 +1,11 @@
+pub mod Apart
+pub mod Views
+pub mod Puts
+pub mod Keys
+pub mod Leaves
+pub mod Trailers
+pub mod Links
+pub mod Chains
+pub mod Pools
+pub mod Starts
+pub mod Seen

@@ -1,0 +1,3 @@
+// What a block shows: laws alone, no code.
+
+#![tactic(auto)]
