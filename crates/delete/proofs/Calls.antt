@@ -11,7 +11,7 @@ use Rattle.reading.specs.Answers.{Bytes}
 use Rattle.whole.specs.Sound.{Sound}
 use Rattle.whole.specs.Check as check
 use Rattle.whole.proofs.Sounds.{zero_sound}
-use Rattle.delete.specs.Delete.{Out, out, planned, PlanReady, delete_sound, delete_by, delete_checked, delete_of}
+use Rattle.delete.specs.Delete.{Out, planned, PlanReady, delete_sound, delete_by, delete_checked, delete_of}
 use Rattle.delete.proofs.Ready.{delete_ready}
 
 -- ── a plan for a sound block is ready ──

@@ -1,15 +1,12 @@
 -- The one child left: a leaf stays as it is, and a record's prefix takes in what was above it.
 use Prim.Native.Nat.{ℕ, ◌%◌, ◌/◌}
 use mathlib.Core.Path.{◌≡◌, refl, sym, ap}
-use mathlib.Core.List.{List, ◌∷◌, ◌++◌}
+use mathlib.Core.List.{List}
 use mathlib.Core.Bool.{Bool, true, false, true≢false}
-use lib.ListN.{length}
 use lib.Dec.{eqb}
 use borrow.Author.Tests.{eq-eqb, ne_eqb}
 use Rattle.lists.specs.Scan.{choose}
-use Rattle.prefix.specs.Run.{held, merge_of}
-use Rattle.prefix.specs.declared.Prefix.{Prefix}
-use Rattle.prefix.proofs.Eights.{eight_length}
+use Rattle.prefix.specs.Run.{merge_of}
 use Rattle.frames.specs.Place.{place_at, record_at}
 use Rattle.frames.specs.declared.frame.Frame.{Frame}
 use Rattle.records.specs.Own.{prefix_at}
@@ -17,11 +14,6 @@ use Rattle.art.specs.Stores.{Place, leaf_place, inner_place}
 use Rattle.points.specs.There.{InnerFitsAt}
 use Rattle.writes.specs.At.{prefixed_at}
 use Rattle.delete.specs.Apply.{joined_at, JoinReady}
-
--- eight bytes are stored of a prefix that two make
-pub merge_stored : (p : Prefix) (byte : ℕ) (q : Prefix) → length (merge_of p byte q).stored ≡ 8
-unfolding merge_of
-merge_stored p byte q = eight_length (held p ++ byte ∷ held q)
 
 module _ (f : Frame) (words : List ℕ) (child : ℕ) where
   abbrev named : Bool → Place

@@ -69,6 +69,7 @@ pub fn indirect_spread(body: &[u32]) -> [u32; BYTES]
     places
 }
 
+// Not one function with that of kinds 1 and 2, since each turn writes other words.
 // Slots and references of the places into a body that is all 0; the slots are numbered in byte order.
 pub fn indirect_fill(body: &mut [u32], places: [u32; BYTES])
     requires { (body.old ≡ replicate slot_words 0) × (how_many nonzero places ≤ slot_places) }

@@ -1,5 +1,5 @@
 // A block that is lent for reading: its words and key bytes, and the frame that its trailer gives, which is known to fit them.
-ghost use Rattle.std.specs.Prelude.{◌≡◌, true, ◌≤◌, ◌<◌, length, get_or, is_ok, IfOk, IfErr};
+ghost use Rattle.std.specs.Prelude.{◌≡◌, true, ◌<◌, get_or, is_ok, IfOk, IfErr};
 ghost use Rattle.refusals.specs.declared.Refusal.TheVariants.{Damaged};
 ghost use Rattle.frames.specs.Frame.{FrameOf, frame_fits, trailer_of};
 ghost use Rattle.frames.specs.Fits.{FrameOf-prop};

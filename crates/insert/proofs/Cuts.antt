@@ -4,20 +4,17 @@ use mathlib.Core.Path.{◌≡◌, refl, sym, ap, ◌∙◌}
 use mathlib.Core.List.{List}
 use mathlib.Core.Bool.{Bool, true, false, true≢false}
 use native.Mathlib.Omega.{arith}
-use lib.ListN.{length, drop, length-take}
-use lib.Dec.{eqb, leb}
+use lib.ListN.{length, length-take}
+use lib.Dec.{eqb}
 use mir.Syntax.{w32}
 use mir.Val.{Fits}
 use borrow.Author.Tests.{eq-eqb, ne_eqb, eqb-true}
 use Rattle.lists.specs.Scan.{choose}
-use Rattle.lists.specs.Part.{between}
-use Rattle.prefix.specs.Run.{held, prefix_of, ltrim_of, split_of}
+use Rattle.prefix.specs.Run.{split_of}
 use Rattle.prefix.specs.declared.Prefix.{Prefix}
-use Rattle.prefix.proofs.Eights.{eight_length}
 use Rattle.frames.specs.Frame.{FrameOf}
 use Rattle.frames.specs.Place.{place_at, in_pool, record_at, key_at}
 use Rattle.frames.specs.declared.frame.Frame.{Frame}
-use Rattle.frames.proofs.FormTable.{stored_eight}
 use Rattle.frames.proofs.Frames.{limit_small}
 use Rattle.frames.proofs.Places.{inner_kind, key_length}
 use Rattle.records.specs.Own.{prefix_at}
@@ -28,19 +25,6 @@ use Rattle.writes.specs.At.{InnerPoolAt, prefixed_at}
 use Rattle.writes.proofs.Spots.{here_place, prefix_short}
 use Rattle.writes.proofs.Kept.{prefixed_kept}
 use Rattle.insert.specs.Apply.{cut_at, CutOrLeaf}
-
--- eight bytes are stored of every prefix
-pub run_stored : (run : List ℕ) → length (prefix_of run).stored ≡ 8
-unfolding prefix_of
-run_stored run = eight_length run
-
-split_stored : (p : Prefix) (n : ℕ) (leaf : List ℕ) (depth : ℕ) → length (split_of p n leaf depth).stored ≡ 8
-unfolding split_of ltrim_of prefix_of
-split_stored p n leaf depth = go (leb p.full.0 8)
-  where
-    go : (b : Bool) → length (choose b (ltrim_of p n) (prefix_of (between leaf (depth + n) (depth + p.full.0)))).stored ≡ 8
-    go true = eight_length (drop n (held p))
-    go false = eight_length (between leaf (depth + n) (depth + p.full.0))
 
 -- a leaf's tag is no longer than the form's limit
 pub tag_short : {f : Frame} {words keys : List ℕ} → FrameOf f words keys → (ref : ℕ) → LeafSeen f words keys ref → length (tag_at f words keys ref) ≤ f.form.limit
@@ -106,14 +90,7 @@ module _ (f : Frame) (words : List ℕ) (below c : ℕ) (t : List ℕ) (d : ℕ)
         pub cut_whole : d + p.full.0 ≤ length t
         cut_whole = omega (arith, ready.whole, ap (λ (q : Prefix). q.full.0) ep)
 
-        pub cut_eight : length p.stored ≡ 8
-        unfolding prefix_at
-        cut_eight = ap (λ (q : Prefix). length q.stored) ep ∙ stored_eight f.form (record_at f words (place_at below))
-
         module _ {q : Prefix} (eq : q ≡ split_of p (c + 1) t d) where
-          pub cut_stored : length q.stored ≡ 8
-          cut_stored = ap (λ (x : Prefix). length x.stored) eq ∙ split_stored p (c + 1) t d
-
           module _ {l : List ℕ} (el : l ≡ prefixed_at f (place_at below) q words) where
             pub cut_made : l ≡ cut_at f (place_at below) c t d words
             cut_made =

@@ -20,12 +20,9 @@ use Rattle.writes.specs.Above.{link_up}
 use Rattle.writes.specs.At.{branch_at, move_at, change_at, clear_at, Roomy}
 use Rattle.writes.proofs.Kept.{branch_kept, move_kept, change_kept, clear_kept, linked_kept}
 use Rattle.insert.specs.Apply.{cut_at, CutOrLeaf, forked, ForkReady, grown, GrowReady}
-use Rattle.insert.proofs.Cuts.{run_stored, tag_short}
+use Rattle.insert.proofs.Cuts.{tag_short}
 
 -- ── a branching: t is the leaf's tag, p the prefix, l the words once what is below is cut, m those with the branching, n those that name it ──
-pub fork_stored : (run : List ℕ) {p : Prefix} → p ≡ prefix_of run → length p.stored ≡ 8
-fork_stored run e = ap (λ (q : Prefix). length q.stored) e ∙ run_stored run
-
 module _ {f : Frame} {words keys tag : List ℕ} {up : Up} {below new witness d c leaf : ℕ} (r : ForkReady f words keys tag up below new witness d c leaf) where
   -- what agrees is no longer than a tag
   pub fork_run : FrameOf f words keys → length (between tag d (d + c)) < 2 ^ 32

@@ -19,14 +19,14 @@ pub fn shared_words(s: &[u32], t: &[u8]) -> usize
         .count()
 }
 
-// The same bytes.
+// The same bytes: std's comparison, in the word of the definitions.
 pub fn same_bytes(s: &[u8], t: &[u8]) -> bool
     ensures { result ≡ same s.now t.now }
 {
     s == t
 }
 
-// `s` begins `t`.
+// `s` begins `t`: std's method, in the word of the definitions.
 pub fn begins_bytes(s: &[u8], t: &[u8]) -> bool
     ensures { result ≡ begins s.now t.now }
 {

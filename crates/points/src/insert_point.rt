@@ -91,7 +91,7 @@ fn run_below(block: &Block, tag: &[u8], reference: u32, depth: usize, full: usiz
 // How many bytes of a run agree, where it can be read.
 #[tactic(auto, using(crate::proofs::Steps::run_long, crate::proofs::Steps::run_short))]
 fn run_of(block: &Block, tag: &[u8], reference: u32, depth: usize, p: Prefix) -> Option<usize>
-    requires { (depth ≤ length tag.now) × (length p.stored ≡ 8) }
+    requires { depth ≤ length tag.now }
     ensures { result ≡ run_of block.now.frame block.now.words.now block.now.keys.now tag.now reference depth p }
 {
     let full = p.full.0 as usize;

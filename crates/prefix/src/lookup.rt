@@ -12,7 +12,7 @@ pub enum PrefixMatchBehavior {
     Optimistic,
 }
 
-// Past the prefix, at the place of the byte after it; or off it, with the number of bytes that agreed.
+// Past the prefix, at the place of the byte after it; or off it, with the number of bytes that agreed. Not a Result: off it is no error, and the crate has these names.
 #[derive(Clone, Copy)]
 pub enum PrefixMatch {
     On(usize, PrefixMatchBehavior),

@@ -1,5 +1,5 @@
 // The room that a record stands in, and the changes of the record.
-ghost use Rattle.std.specs.Prelude.{◌≡◌, take, length, IfSome};
+ghost use Rattle.std.specs.Prelude.{◌≡◌, take, IfSome};
 ghost use Rattle.frames.specs.Form.{record_words};
 
 use super::record::Record;
@@ -48,10 +48,8 @@ impl Room {
         Some(Record { form, kind, words })
     }
 
-    // A record of this kind with this prefix and these children, at the front of the cleared room; false where they do not fit.
-    fn lay(&mut self, kind: u32, p: Prefix, places: [u32; 256]) -> bool
-        requires { (length p.stored ≡ 8) × (length places ≡ 256) }
-    {
+    // A record of this kind with this prefix and these children, at the front of the room; false where they do not fit.
+    fn lay(&mut self, kind: u32, p: Prefix, places: [u32; 256]) -> bool {
         if kind == 0 || 4 < kind {
             return false;
         }

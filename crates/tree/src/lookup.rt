@@ -21,7 +21,7 @@ use records::{header, leaf_node, representation};
 use refusals::Refusal;
 use std::ops::ControlFlow;
 
-// What the held tag must be: the given bytes, or a beginning of them.
+// What the held tag must be: the given bytes, or a beginning of them. An enum and no closure, since the definitions name the two aims.
 #[derive(Clone, Copy)]
 pub enum Aim {
     Exact,

@@ -21,7 +21,7 @@ use records::{leaf_node, representation};
 use refusals::Refusal;
 use std::ops::ControlFlow;
 
-// Which end of a row.
+// Which end of a row. An enum and no closure, since the definitions name the two ends.
 #[derive(Clone, Copy)]
 pub enum Edge {
     Low,

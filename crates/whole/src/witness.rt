@@ -1,5 +1,5 @@
 // What is compared of a leaf below a record, its witness: two leaves' tags, and a record's stored bytes with a tag.
-ghost use Rattle.std.specs.Prelude.{◌≡◌, length};
+ghost use Rattle.std.specs.Prelude.{◌≡◌};
 ghost use Rattle.records.specs.Own.{prefix_at};
 ghost use Rattle.tree.specs.Arrive.{InnerFitsFrom};
 ghost use Rattle.whole.specs.Arrive.{inner_rec};
@@ -36,7 +36,6 @@ pub fn leaf_goes_on(block: &Block, e: usize, w: u32, byte: u32, t: u32) -> bool
 
 // The tag has the prefix's stored bytes at this depth.
 fn stored_agrees(p: Prefix, w: &[u8], depth: usize) -> bool
-    requires { length p.stored ≡ 8 }
     ensures { result ≡ stored_agrees depth p w.now }
 {
     let n = prefix::stored_len(p.full);

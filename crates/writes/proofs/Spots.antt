@@ -9,7 +9,6 @@ use mir.Syntax.{w32}
 use mir.Val.{Fits}
 use Rattle.lists.specs.Scan.{how_many, nonzero}
 use Rattle.lists.specs.Part.{between, splice}
-use Rattle.prefix.specs.declared.Prefix.{Prefix}
 use Rattle.frames.specs.Kind.{children_of}
 use Rattle.frames.specs.Form.{Stores, record_words}
 use Rattle.frames.specs.Frame.{FrameOf, frame_of, trailer_of}

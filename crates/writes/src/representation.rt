@@ -59,7 +59,7 @@ pub fn change_at(words: &mut [u32], keys: &[u8], f: Frame, reference: u32, byte:
 
 // Another prefix.
 pub fn set_prefix_at(words: &mut [u32], keys: &[u8], f: Frame, reference: u32, p: Prefix)
-    requires { FrameOf f words.old keys.now × (InnerFitsAt f words.old (place_at reference) × (length p.stored ≡ 8)) }
+    requires { FrameOf f words.old keys.now × InnerFitsAt f words.old (place_at reference) }
     ensures { words.new ≡ prefixed_at f (place_at reference) p words.old }
 {
     let part = part_at(words, keys, f, reference);
@@ -91,7 +91,7 @@ pub fn branch_at(
     c: u8,
     s: u32,
 )
-    requires { (FrameOf f words.old keys.now × InnerPoolAt f (place_at reference)) × ((length p.stored ≡ 8) × ((b ≢ c) × ((0 < r) × (0 < s)))) }
+    requires { (FrameOf f words.old keys.now × InnerPoolAt f (place_at reference)) × ((b ≢ c) × ((0 < r) × (0 < s))) }
     ensures { words.new ≡ branch_at f (place_at reference) p b r c s words.old }
 {
     let part = part_at(words, keys, f, reference);

@@ -1,7 +1,7 @@
 -- `directory_c::tag_start` meets its contract: the leaf's number by the limit of the frame's form.
 use native.Mathlib.Nat.{mul-le-mul}
 use native.Mathlib.Omega.{arith}
-use Prim.Native.Nat.{◌*◌, ◌≤◌}
+use Prim.Native.Nat.{◌≤◌}
 use Rattle.frames.proofs.Frames.{limit_small}
 use Rattle.directory_c.proofs.tag_start.Goals as goal
 

@@ -1,16 +1,14 @@
 -- `apply::join_at` meets its contract: a leaf is left as it is, and a record's prefix is merged with the one above it.
 use mathlib.Core.Path.{ap, ap₂, ◌∙◌}
 use native.Mathlib.Omega.{arith}
-use lib.ListN.{length}
 use Rattle.prefix.specs.Run.{merge_of}
-use Rattle.frames.specs.Place.{place_at, record_at}
-use Rattle.frames.proofs.FormTable.{stored_eight}
+use Rattle.frames.specs.Place.{place_at}
 use Rattle.records.specs.Own.{prefix_at}
 use Rattle.writes.specs.At.{prefixed_at}
 use Rattle.frames.proofs.Frames.{limit_small}
 use Rattle.writes.proofs.Spots.{here_place, prefix_short}
 use Rattle.writes.proofs.Kept.{prefixed_kept}
-use Rattle.delete.proofs.Joins.{merge_stored, combined_here, combined_leaf, combined_inner}
+use Rattle.delete.proofs.Joins.{combined_here, combined_leaf, combined_inner}
 use Rattle.delete.proofs.apply.join_at.Goals as goal
 
 pub returns-then-child-eq-LEAF : goal.returns-then-child-eq-LEAF
@@ -33,7 +31,7 @@ merge-joined-requires c = let a = c.args in
 pub set_prefix_at-requires : goal.set_prefix_at-requires
 set_prefix_at-requires c = let a = c.args in
     let h = combined_here a.f a.words.now a.child c.if-child-eq-LEAF.false c.requires.1.1.0 in
-    (c.requires.0, (h, ap (λ p. length p.stored) c.merge-joined.ensures ∙ merge_stored c.prefix_of-p.result a.byte c.prefix_of-q.result))
+    (c.requires.0, h)
 
 pub returns : goal.returns
 returns c = let a = c.args in

@@ -1,6 +1,6 @@
 -- `apply::fork` meets its contract: the tag and the leaf's tag part at the byte, and what is below is cut first.
 use Rattle.insert.proofs.Cuts.{pool_some}
-use Rattle.insert.proofs.Made.{fork_run, fork_inside, fork_cut, fork_parts, fork_stored, fork_above, fork_kept, fork_linked, fork_framed}
+use Rattle.insert.proofs.Made.{fork_run, fork_inside, fork_cut, fork_parts, fork_above, fork_kept, fork_linked, fork_framed}
 use Rattle.insert.proofs.apply.fork.Goals as goal
 
 pub bounds-t-e : goal.bounds-t-e
@@ -13,7 +13,7 @@ pub cut_at-requires : goal.cut_at-requires
 cut_at-requires c = (search, search fork_cut)
 
 pub branch_at-requires : goal.branch_at-requires
-branch_at-requires c = ((search, search), (search fork_stored, (search fork_parts, (search, search pool_some))))
+branch_at-requires c = ((search, search), (search fork_parts, (search, search pool_some)))
 
 pub link_up-requires : goal.link_up-requires
 link_up-requires c = let ready = c.requires.1.0 in

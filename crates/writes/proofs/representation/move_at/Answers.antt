@@ -1,18 +1,16 @@
 -- `representation::move_at` meets its contract: the places of a record's children are its row, and there are as many as it says.
 use mathlib.Core.Path.{ap, ap₂, ◌∙◌}
 use native.Mathlib.Omega.{arith}
-use lib.ListN.{length}
 use Rattle.lists.specs.Part.{splice}
 use Rattle.lists.specs.Scan.{how_many, nonzero}
-use Rattle.frames.specs.Place.{place_at, record_at, put_at, kind_at}
-use Rattle.frames.proofs.FormTable.{stored_eight}
+use Rattle.frames.specs.Place.{place_at, put_at, kind_at}
 use Rattle.records.specs.Own.{prefix_at}
 use Rattle.records.specs.Row.{direct_row}
 use Rattle.edits.specs.Record.{build_rec}
 use Rattle.edits.proofs.Inners.{inner_own}
 use Rattle.writes.specs.At.{move_at}
 use Rattle.writes.proofs.Spots.{part_made, build_ready}
-use Rattle.writes.proofs.Branches.{spread_long, spread_count}
+use Rattle.writes.proofs.Branches.{spread_count}
 use Rattle.writes.proofs.representation.move_at.Goals as goal
 
 pub build-requires : goal.build-requires

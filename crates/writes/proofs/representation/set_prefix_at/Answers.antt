@@ -12,7 +12,7 @@ use Rattle.writes.proofs.representation.set_prefix_at.Goals as goal
 pub set_prefix-requires : goal.set_prefix-requires
 set_prefix-requires c = let part = c.part_at-part.ensures in
     let form = c.args.f.form in
-    (frame_stores c.requires.0, part_has c.args.f c.args.words.now c.args.reference part.0 part.1.0 (λ k l. header form ≤ length l) (omega (arith, c.requires.1.0.fits.long)))
+    (frame_stores c.requires.0, part_has c.args.f c.args.words.now c.args.reference part.0 part.1.0 (λ k l. header form ≤ length l) (omega (arith, c.requires.1.fits.long)))
 
 pub returns : goal.returns
 unfolding prefixed_at splice

@@ -1,4 +1,0 @@
-// Ours, not blart's: stands for src/collections/map/iterators.rs. It leads to range.rs, the one iterator that was supplied.
-
-mod range;
-pub use range::*;
