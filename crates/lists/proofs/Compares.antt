@@ -1,17 +1,18 @@
 -- The laws of `Compare`: what `shared`, `same`, `begins` and `less` say of the lists and of each other.
-use Prim.Native.Nat.{ℕ, zero, suc, ◌≤◌, ◌<◌, min}
+use Prim.Native.Nat.{ℕ, zero, suc, ◌+◌, ◌≤◌, ◌<◌, min}
 use mathlib.Core.Path.{◌≡◌, refl, sym, ap, ◌∙◌}
 use mathlib.Core.List.{List, [], ◌∷◌, ◌++◌}
-use mathlib.Core.Bool.{Bool, true, false, ◌&&◌, ◌||◌, or-false, true≢false, false≢true}
+use mathlib.Core.Bool.{Bool, true, false, ◌&&◌, ◌||◌, and_assoc, and-true, or-false, true≢false, false≢true}
 use native.Mathlib.Decide.{dec_lt}
 use native.Mathlib.Omega.{arith}
 use borrow.Author.Tests.{eqb-true, eqb-false, eq-eqb, ne_eqb, lt-ltb, le-ltb}
-use lib.ListN.{length, get_or, take, length-take}
+use lib.ListN.{length, get_or, take, drop, length-take, drop_of_length-le}
 use lib.Seq.{get_or-take}
 use lib.Pointwise.{pointwise}
 use lib.Dec.{eqb, ltb, eqb-zero-suc, eqb-suc-suc}
 use Rattle.lists.specs.Scan.{choose}
 use Rattle.lists.specs.Compare.{shared, same, begins, less}
+use Rattle.lists.proofs.Scans.{step}
 use Rattle.lists.proofs.Tests.{both, and_both}
 
 pub shared_nil : (s : List ℕ) → shared s [] ≡ 0
@@ -122,6 +123,42 @@ pub begins_starts : (s t : List ℕ) → begins s t ≡ pointwise eqb s (take (l
 begins_starts [] t = refl
 begins_starts (x ∷ xs) [] = refl
 begins_starts (x ∷ xs) (y ∷ ys) = ap (λ (b : Bool). eqb x y && b) (begins_starts xs ys)
+
+-- no list begins a shorter one
+pub begins_long : (s t : List ℕ) → length t < length s → false ≡ begins s t
+begins_long s t h = sym (begins_shared s t ∙ ne_eqb (shared s t) (length s) (omega (arith, shared_le s t)))
+
+-- of two lists of one length that begins the other exactly where they are the same
+pub same_begins : (s t : List ℕ) → length s ≡ length t → begins s t ≡ same s t
+same_begins [] [] h = refl
+same_begins [] (y ∷ ys) h = absurd (omega arith)
+same_begins (x ∷ xs) [] h = absurd (omega arith)
+same_begins (x ∷ xs) (y ∷ ys) h = ap (λ (b : Bool). eqb x y && b) (same_begins xs ys (omega arith))
+
+-- the left begins the right, which is no shorter: `ok` says whether they agree before i
+pub record Begins (s t : List ℕ) (i : ℕ) (ok : Bool) : Type 0 where
+  pub within : i ≤ length s
+  pub fits : length s ≤ length t
+  pub left : begins s t ≡ ok && begins (drop i s) (drop i t)
+
+pub begins_start : {s t : List ℕ} → length s ≤ length t → Begins s t 0 true
+begins_start h = record { within = omega arith; fits = h; left = refl }
+
+module _ {s t : List ℕ} {i : ℕ} {ok : Bool} (r : Begins s t i ok) where
+  pub begins_on : i < length s → Begins s t (i + 1) (ok && eqb (get_or s i 0) (get_or t i 0))
+  begins_on h =
+      let x = get_or s i 0 in
+      let y = get_or t i 0 in
+      let e : begins (drop i s) (drop i t) ≡ eqb x y && begins (drop (i + 1) s) (drop (i + 1) t) =
+      ap (λ (l : List ℕ). begins l (drop i t)) (step s i h) ∙ ap (begins (x ∷ drop (i + 1) s)) (step t i (omega (arith, r.fits))) in
+      record {
+        within = omega arith;
+        fits = r.fits;
+        left = r.left ∙ ap (λ (b : Bool). ok && b) e ∙ sym (and_assoc ok (eqb x y) (begins (drop (i + 1) s) (drop (i + 1) t)));
+      }
+
+  pub begins_end : length s ≤ i → ok ≡ begins s t
+  begins_end h = sym (r.left ∙ ap (λ (l : List ℕ). ok && begins l (drop i t)) (drop_of_length-le s h) ∙ and-true ok)
 
 -- and so the right goes on from it, and back
 pub begins_rest : (s t : List ℕ) → begins s t ≡ true → (z : List ℕ) × (t ≡ s ++ z)

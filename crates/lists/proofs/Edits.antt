@@ -13,6 +13,20 @@ use Rattle.lists.specs.Edit.{push_in, pull_out, shift_in, shift_out, padded}
 pub padded_length : (k : ℕ) (l : List ℕ) → length l ≤ k → length (padded k l) ≡ k
 padded_length k l h = omega (arith, length-append l (replicate (k - length l) 0), length-replicate {A = ℕ} (k - length l) 0)
 
+-- past the end of l there is 0 on both sides
+pub padded_at : (k : ℕ) (l : List ℕ) (i : ℕ) → get_or (padded k l) i 0 ≡ get_or l i 0
+padded_at k l i = go l i
+  where
+    zeros : (m j : ℕ) → get_or (replicate {A = ℕ} m 0) j 0 ≡ 0
+    zeros zero j = refl
+    zeros (suc m) zero = refl
+    zeros (suc m) (suc j) = zeros m j
+
+    go : (xs : List ℕ) (j : ℕ) → get_or (xs ++ replicate (k - length l) 0) j 0 ≡ get_or xs j 0
+    go [] j = zeros (k - length l) j
+    go (x ∷ xs) zero = refl
+    go (x ∷ xs) (suc j) = go xs j
+
 -- ── an element shifted in ──
 pub push_length : (x : ℕ) (s : List ℕ) → length (push_in x s) ≡ length s
 push_length x [] = refl

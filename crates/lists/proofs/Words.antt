@@ -1,11 +1,11 @@
 -- The definitions of `Scan` in std's words, in which the chains of iterators say what they give.
-use Prim.Native.Nat.{ℕ, zero, suc, ◌+◌, ◌-◌, ◌≤◌, ◌<◌}
+use Prim.Native.Nat.{ℕ, zero, suc, ◌+◌, ◌-◌, ◌≤◌, ◌<◌, max}
 use mathlib.Core.Path.{◌≡◌, refl, sym, ap, ◌∙◌}
 use mathlib.Core.List.{List, [], ◌∷◌}
 use mathlib.Core.Bool.{Bool, true, false, cond, not, ◌&&◌, and_assoc, and-true}
 use lib.Dec.{eqb, leb, ltb, eqb-suc-zero, leb-suc-zero}
 use native.Mathlib.Omega.{arith}
-use borrow.Author.Tests.{ltb-false, ne_eqb}
+use borrow.Author.Tests.{le-leb, ltb-false, ne_eqb}
 use lib.ListN.{length, get_or}
 use Rattle.std.proofs.Common.{Option, Some, None}
 use Rattle.std.specs.Option.{unwrap_or}
@@ -16,9 +16,17 @@ use Rattle.std.proofs.lemmas.List.Recursion.{is_position_or_len}
 use Rattle.lists.specs.Scan.{choose, at_most, all_pass, first, past, onward}
 
 -- ── a fold that looks at each element ──
-pub fold_all : (p : ℕ → Bool) (ok : Bool) (s : List ℕ) → fold (λ b x. b && p x) ok s ≡ ok && all_pass p s
-fold_all p ok [] = sym (and-true ok)
-fold_all p ok (x ∷ xs) = fold_all p (ok && p x) xs ∙ and_assoc ok (p x) (all_pass p xs)
+-- the larger of two numbers is b or less exactly where both are
+most_of : (b a x : ℕ) → leb (max a x) b ≡ leb a b && leb x b
+most_of b a x = grind arith
+
+fold_most : (b most : ℕ) (s : List ℕ) → leb (fold max most s) b ≡ leb most b && all_pass (at_most b) s
+fold_most b most [] = sym (and-true (leb most b))
+fold_most b most (x ∷ xs) =
+    fold_most b (max most x) xs ∙ ap (λ (t : Bool). t && all_pass (at_most b) xs) (most_of b most x) ∙ and_assoc (leb most b) (leb x b) (all_pass (at_most b) xs)
+
+pub largest_is : (b : ℕ) (s : List ℕ) → leb (fold max 0 s) b ≡ all_pass (at_most b) s
+largest_is b s = fold_most b 0 s ∙ ap (λ (t : Bool). t && all_pass (at_most b) s) (le-leb 0 b (omega arith))
 
 -- no bit is set in either of two numbers exactly where both are 0
 no_bits : (a x : ℕ) → eqb (bit_or a x) 0 ≡ eqb a 0 && leb x 0

@@ -19,18 +19,28 @@ pub fn shared_words(s: &[u32], t: &[u8]) -> usize
         .count()
 }
 
-// The same bytes: std's comparison, in the word of the definitions.
+// The same bytes.
 pub fn same_bytes(s: &[u8], t: &[u8]) -> bool
     ensures { result ≡ same s.now t.now }
 {
-    s == t
+    if s.len() != t.len() {
+        return false;
+    }
+    begins_bytes(s, t)
 }
 
-// `s` begins `t`: std's method, in the word of the definitions.
+// `s` begins `t`. Each byte is looked at, where `starts_with` would stop at the first that differs: in that form the compiler takes several bytes at a time.
 pub fn begins_bytes(s: &[u8], t: &[u8]) -> bool
     ensures { result ≡ begins s.now t.now }
 {
-    t.starts_with(s)
+    if t.len() < s.len() {
+        return false;
+    }
+    let mut ok = true;
+    for i in 0..s.len() {
+        ok &= s[i] == t[i];
+    }
+    ok
 }
 
 // `s` comes before `t` in unsigned byte order, where a run comes after those that begin it. Not `s < t`, which took 81 ns for 48 bytes where this took 53 ns.

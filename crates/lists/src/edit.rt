@@ -2,14 +2,16 @@
 ghost use Rattle.std.specs.Prelude.{◌≡◌, ◌≤◌, ◌<◌, length};
 ghost use Rattle.lists.specs.Edit.{shift_in, shift_out, padded};
 
-// The bytes of `from`, and 0 after them.
+use super::scan;
+
+// The bytes of `from`, and 0 after them. Not by `copy_from_slice`, which becomes a call of memmove here, and that would be a name more that the archive for C wants from outside.
 pub fn pad_bytes(to: &mut [u8], from: &[u8])
     requires { length from.now ≤ length to.old }
     ensures { to.new ≡ padded (length to.old) from.now }
 {
-    let (front, back) = to.split_at_mut(from.len());
-    front.copy_from_slice(from);
-    back.fill(0);
+    for j in 0..to.len() {
+        to[j] = scan::byte_at(from, j);
+    }
 }
 
 // `x` put in at `at`: the words from there on move up by one, and the last is lost.
