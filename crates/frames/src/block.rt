@@ -18,7 +18,8 @@ pub struct Block<'w, 'k> {
 }
 
 impl<'w, 'k> Block<'w, 'k> {
-    // The block of slices that their frame fits.
+    // The block of slices that their frame fits. Inlined, and what it calls too, so that a caller has what it reads of the block, and no copy of all of it.
+    #[inline(always)]
     pub fn new(words: &'w [u32], keys: &'k [u8]) -> Block<'w, 'k>
         requires { frame_fits words.now keys.now ≡ true }
         ensures { (result.words.now ≡ words.now) × (result.keys.now ≡ keys.now) }
@@ -28,6 +29,7 @@ impl<'w, 'k> Block<'w, 'k> {
     }
 
     // The same of any slices: those that their frame does not fit are refused.
+    #[inline(always)]
     pub fn try_new(words: &'w [u32], keys: &'k [u8]) -> Result<Block<'w, 'k>, Refusal>
         ensures fits { is_ok result ≡ frame_fits words.now keys.now }
         ensures lent { IfOk result (λ block. (block.words.now ≡ words.now) × (block.keys.now ≡ keys.now)) }

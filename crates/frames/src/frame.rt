@@ -149,6 +149,7 @@ fn trailer_fits(t: &[u32], n: usize, k: usize) -> bool
 }
 
 // The frame of a form, sizes and capacities.
+#[inline(always)]
 fn frame_with(form: Form, z: Sizes, c: Caps) -> Frame
     requires { SmallSizes z × SmallCaps c }
     ensures { result ≡ frame_with form z c }
@@ -175,6 +176,7 @@ fn frame_with(form: Form, z: Sizes, c: Caps) -> Frame
 }
 
 // The frame that a trailer gives.
+#[inline(always)]
 fn frame_of(t: &[u32]) -> Frame
     requires { (length t.now ≡ 16) × ((form_known (get_or t.now 0 0) ≡ true) × (caps_small (caps_of t.now) ≡ true)) }
     ensures { result ≡ frame_of t.now }
@@ -199,6 +201,7 @@ pub fn frame_fits(words: &[u32], keys: &[u8]) -> bool
 }
 
 // The frame of slices that it fits.
+#[inline(always)]
 pub fn frame_at(words: &[u32], keys: &[u8]) -> Frame
     requires { frame_fits words.now keys.now ≡ true }
     ensures { FrameOf result words.now keys.now }
