@@ -100,7 +100,8 @@ pub fn after_first(block: &Block, tag: &[u8]) -> Found
 pub fn first_at_or_after(words: &[u32], keys: &[u8], scratch: &mut [u8], tag: &[u8]) -> Found
     ensures { answer result scratch.new ≡ after_of words.now keys.now scratch.old tag.now }
 {
-    check::check(words, keys, scratch)?;
-    let block = Block::new(words, keys);
-    after_first(&block, tag)
+    match check::check(words, keys, scratch) {
+        Ok(()) => after_first(&Block::new(words, keys), tag),
+        Err(refusal) => Err(refusal),
+    }
 }
