@@ -73,7 +73,7 @@ def functions(code):
     for m in re.finditer(r"\bfn (\w+)(?:<[^>]*>)?\(", code):
         shut = close(code, m.end() - 1)
         taken = [re.split(r":\s*", code[a:e], maxsplit=1) for a, e in parts(code, m.end(), shut)]
-        taken = [t if len(t) == 2 else [t[0].split()[-1].lstrip("&"), "Self"] for t in taken]
+        taken = [t for t in taken if len(t) == 2]  # a method's `self` stands before its name at a call
         body = code.index("{", shut)
         result = code[shut + 1 : body].replace("->", "").strip()
         yield Function(m.group(1), [n for n, _ in taken], [t for _, t in taken], result, body, close(code, body))
@@ -90,7 +90,7 @@ class Names:
                 self.takes[f.name].append(f.types)
                 self.gives[f.name] = f.result
             for kind, name, items in re.findall(r"\b(struct|enum) (\w+) \{(.*?)\n\}", code, re.S):
-                typed = re.findall(r"^    (?:pub )?(\w+)(.*),", items, re.M)
+                typed = re.findall(r"^    (?:pub )?(\w+)(?: = \d+)?(.*),", items, re.M)  # a variant's number is no part of what it holds
                 for item, load in typed:
                     alike = {n for n, l in typed if l == load and n != item}
                     if kind == "struct":
