@@ -27,8 +27,8 @@
  * it out of the key bytes first.
  *
  * Check, first-at-or-after, station total, insert and delete look at the whole directory, and use
- * the stack for it: 5 KB and some 930 bytes for each level of the tree. That is 5 KB for 256
- * one-byte tags and 64 KB for the deepest tree that there can be (measured, not proved; where the
+ * the stack for it: 5 KB and some 260 bytes for each level of the tree. That is 6 KB for 256
+ * one-byte tags and 22 KB for the deepest tree that there can be (measured, not proved; where the
  * system looks up memcpy at its first call, that call takes some 1,400 bytes more).
  *
  * TAGS. A tag is any string of bytes, up to 64 of them. No held tag begins another: PUMP10 beside
